@@ -1,0 +1,4 @@
+-- Laws of the numbers and their names.
+pub mod Look
+pub mod Agree
+pub mod Named

@@ -1,0 +1,8 @@
+// Every number that names something (docs/NUMBERS.md), once: sizes, depths, directions, modes, flag bits, words of a row, answers.
+pub mod answer;
+pub mod depth;
+pub mod dir;
+pub mod flag;
+pub mod mode;
+pub mod size;
+pub mod word;
