@@ -1,6 +1,8 @@
 -- "Refusal numbers, in order of checking"; "0 is done".
+use mathlib.Core.Bool.{Bool}
 use mathlib.Core.List.{List, [], _∷_}
 use Prim.Native.Nat.{ℕ}
+use lib.Dec.{eqb}
 use Rattle.numbers.specs.Look.{look, Maybe, only, nothing}
 use Rattle.numbers.specs.declared.answer.Answer.{Answer}
 use Rattle.numbers.specs.declared.answer.Answer.the-variants.{Done, BadSize, BadDepth, BadMode, OutsidePlane, NoNeighbour, BadBase, NoDifferences, BadSample, ShortList, BadColourDirection, BadReference, BadLines, BadColourSample, SumTooLarge, BadPlane, BadPlan, NotEachOnce, PairTurned}
@@ -35,3 +37,7 @@ answers =
 -- number to case
 abbrev pub answerOf : ℕ → Maybe Answer
 answerOf n = look answerNumber only nothing answers n
+
+-- "0 is done"
+unfoldable pub isDone : Answer → Bool
+isDone a = eqb (answerNumber a) 0

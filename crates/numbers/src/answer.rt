@@ -1,6 +1,6 @@
 // What a call answers: done, or a refusal (document 01, Refusal numbers, in order of checking).
 ghost use mathlib.Core.Path.{_≡_};
-ghost use Rattle.numbers.specs.Answer.{answerNumber};
+ghost use Rattle.numbers.specs.Answer.{answerNumber, isDone};
 
 pub enum Answer {
     Done,
@@ -50,5 +50,12 @@ impl Answer {
             Answer::NotEachOnce => 22,
             Answer::PairTurned => 23,
         }
+    }
+
+    // Whether the call was done.
+    pub fn is_done(self) -> bool
+        ensures { λ r. ⌜ r ≡ isDone self ⌝ }
+    {
+        self.number() == 0
     }
 }

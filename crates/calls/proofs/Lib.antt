@@ -1,0 +1,2 @@
+-- Laws of the tests of a direct call.
+pub mod Accepted

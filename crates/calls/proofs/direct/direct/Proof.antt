@@ -1,0 +1,141 @@
+-- `direct` meets its contract: each test is the ladder's, in its order. Assumes nothing.
+use borrow.Author.Needs.{needs, sfits-of}
+use borrow.Author.Tests.{not-true, not-false}
+use mathlib.Core.Path.{_≡_, sym, _∙_, ap}
+use mathlib.Core.Bool.{true}
+use lib.IntN.{pos}
+use lib.ListN.{length}
+use mir.Syntax.{w32}
+use mir.Val.{toZ, ofZ}
+use mir.Facts.{toZ-ofZ}
+use Rattle.numbers.specs.Size.{isSize}
+use Rattle.numbers.specs.Depth.{isDepth, most}
+use Rattle.numbers.proofs.Agree.{size-yes, size-no, depth-yes, depth-no, depth-back}
+use Rattle.zint.proofs.Bound.{back}
+use Rattle.calls.specs.Direct.{isLong, isRead, directAnswer}
+use Rattle.calls.proofs.Accepted.{size-most, long-all}
+use Rattle.calls.proofs.direct.direct.Statement.{statement}
+use Rattle.calls.proofs.direct.direct.Tie as tie
+
+-- what each test has shown where it is passed
+size : (c : tie.After-enum-told) → isSize (c .before .before .before .args .b) ≡ true
+size c = size-yes _ _ (sym (c .before .before .of .ensures) ∙ c .enum-told .given .1)
+
+depth : (c : tie.After-depth) → isDepth (c .before .before .before .before .before .before .args .d) ≡ true
+depth c = depth-yes _ _ (sym (c .before .before .of2 .ensures) ∙ c .depth .given .1)
+
+module _ (c : tie.After-known-told) where
+  abbrev s : tie.Start
+  s = c .before .before .before .before .before .before .before
+
+module _ (c : tie.Else1) where
+  abbrev t : tie.Start
+  t = s (c .before .before)
+
+  long : isLong (t .args .b) (length (t .args .above .now)) (length (t .args .left .now)) (t .args .n) ≡ true
+  long = sym (c .before .is-long .ensures) ∙ not-false (c .before .is-long .result) (c .if1 .left)
+
+-- M of the depth that was found
+max-is : (c : tie.After-max) → toZ w32 (ofZ w32 (c .max .result)) ≡ pos (most (t (c .before) .args .d))
+max-is c =
+    let d = c .before .before .before .before in
+    back w32 {z = c .max .result} (sfits-of (c .max .ok))
+    ∙ c .max .ensures
+    ∙ ap (λ n. pos (most n)) (depth-back _ _ (sym (d .before .before .of2 .ensures) ∙ d .depth .given .1))
+
+read-is : (c : tie.After-is-read) → c .is-read .result ≡ isRead (t (c .before .before) .args .b) (pos (most (t (c .before .before) .args .d))) (t (c .before .before) .args .above .now) (t (c .before .before) .args .left .now) (t (c .before .before) .args .corner)
+read-is c = simp (max-is (c .before), toZ-ofZ, t (c .before .before) .fits .corner) at (c .is-read .ensures)
+
+of-requires : tie.Need-of-requires
+of-requires c κs = search needs
+
+enum-told : tie.Need-enum-told
+enum-told c = search needs
+
+enum-told-2 : tie.Need-enum-told-2
+enum-told-2 c = search needs
+
+returns : tie.Need-returns
+unfolding directAnswer
+returns c = simp (size-no (c .before .before .before .args .b) (sym (c .before .before .of .ensures) ∙ c .enum-told2 .given .1))
+
+of-requires-2 : tie.Need-of-requires-2
+of-requires-2 c κs = search needs
+
+enum-known-depth : tie.Need-enum-known-depth
+enum-known-depth c = search needs
+
+enum-told-3 : tie.Need-enum-told-3
+enum-told-3 c = search needs
+
+returns-2 : tie.Need-returns-2
+unfolding directAnswer
+returns-2 c =
+    simp (
+      size (c .before .before .before),
+      depth-no (c .before .before .before .before .before .before .args .d) (sym (c .before .before .of2 .ensures) ∙ c .enum-told3 .given .1),
+    )
+
+is-long-requires : tie.Need-is-long-requires
+is-long-requires c κs = size-most _ (size (c .before .before .before .before))
+
+returns-3 : tie.Need-returns-3
+unfolding directAnswer
+returns-3 c =
+    let k = c .before .before .before in
+    simp (
+      size (k .before .before .before),
+      depth k,
+      sym (c .before .is-long .ensures) ∙ not-true (c .before .is-long .result) (c .if1 .taken),
+    )
+
+max-requires : tie.Need-max-requires
+max-requires c κs = search needs
+
+is-read-requires : tie.Need-is-read-requires
+is-read-requires c κs =
+    let l = long-all _ _ _ _ (long (c .before)) in
+    (size-most _ (size (c .before .before .before .before .before .before .before)), l .0, l .1)
+
+returns-4 : tie.Need-returns-4
+unfolding directAnswer
+returns-4 c =
+    let f = c .before .before .before in
+    let k = f .before .before .before in
+    simp (
+      size (k .before .before .before),
+      depth k,
+      long f,
+      sym (read-is (c .before)) ∙ not-true (c .before .is-read .result) (c .if2 .taken),
+    )
+
+returns-5 : tie.Need-returns-5
+unfolding directAnswer
+returns-5 c =
+    let f = c .before .before .before in
+    let k = f .before .before .before in
+    simp (
+      size (k .before .before .before),
+      depth k,
+      long f,
+      sym (read-is (c .before)) ∙ not-false (c .before .is-read .result) (c .if2 .left),
+    )
+
+pub direct-spec : {M : Type 1} → statement M
+direct-spec =
+    tie.close
+    (tie.spec
+    of-requires
+    enum-told
+    enum-told-2
+    returns
+    of-requires-2
+    enum-known-depth
+    enum-told-3
+    returns-2
+    is-long-requires
+    returns-3
+    max-requires
+    is-read-requires
+    returns-4
+    returns-5)

@@ -1,0 +1,46 @@
+-- "direct predictor calls 1, 2, 3, 9, 8": what they test, in that order (3 is for those that take a mode), and what they promise.
+use Prim.Native.Nat.{ℕ, _*_}
+use mathlib.Core.Bool.{Bool, _&&_}
+use mathlib.Core.List.{List, [], _∷_}
+use lib.Dec.{leb}
+use lib.IntN.{ℤ, pos}
+use lib.Ieee.{Float}
+use lib.ListN.{length}
+use Rattle.numbers.specs.Size.{isSize}
+use Rattle.numbers.specs.Depth.{isDepth, most}
+use Rattle.numbers.specs.declared.answer.Answer.{Answer}
+use Rattle.numbers.specs.declared.answer.Answer.the-variants.{BadSize, BadDepth, ShortList, BadSample}
+use Rattle.zint.specs.Range.{inside, allInside}
+use Rattle.lists.specs.Block.{block}
+use Rattle.ladder.specs.Ladder.{Rule, _else_, ladder}
+use Rattle.ladder.specs.Promise.{lent, Promise}
+
+-- "an edge list under 2B entries, an output under B x B"
+unfoldable pub isLong : ℕ → ℕ → ℕ → ℕ → Bool
+isLong B above left out = leb (2 * B) above && leb (2 * B) left && leb (B * B) out
+
+-- "want 2B entries in both edges and test all of them and the corner"
+unfoldable pub isRead : ℕ → ℤ → List ℤ → List ℤ → ℤ → Bool
+isRead B M above left k = allInside M above (2 * B) && allInside M left (2 * B) && inside M k
+
+-- the rules of a call whose output has n entries
+abbrev pub directRules : ℕ → ℕ → List ℤ → List ℤ → ℤ → ℕ → List Rule
+directRules B D above left k n =
+    isSize B else BadSize ∷
+    isDepth D else BadDepth ∷
+    isLong B (length above) (length left) n else ShortList ∷
+    isRead B (pos (most D)) above left k else BadSample ∷ []
+
+unfoldable pub directAnswer : ℕ → ℕ → List ℤ → List ℤ → ℤ → ℕ → Answer
+directAnswer B D above left k n = ladder (directRules B D above left k n)
+
+-- a predictor: its sample at row r and column c, from B, the edges and the corner
+abbrev pub Predictor : Type 0
+Predictor = ℕ → List ℤ → List ℤ → ℤ → ℕ → ℕ → ℤ
+
+-- what a predictor's call promises of its answer r, and of the output before and after
+abbrev pub Predicted : Predictor → ℕ → ℕ → List ℤ → List ℤ → ℤ → List Float → List Float → Answer → Type 0
+Predicted at B D above left k before after r =
+    Promise (directAnswer B D above left k (length before))
+    (lent (directAnswer B D above left k (length before)) (block B B (at B above left k) before) before)
+    r after

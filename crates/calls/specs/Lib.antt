@@ -1,0 +1,2 @@
+-- What direct predictor calls test, and what they promise.
+pub mod Direct

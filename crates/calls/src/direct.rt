@@ -1,0 +1,60 @@
+// "Direct predictor calls pass the job's words that they use, want 2B entries in both edges and test all of them and the corner."
+// (document 01, Refusal numbers)
+use crate::range;
+use numbers::answer::Answer;
+use numbers::depth::Depth;
+use numbers::depth::FoundDepth;
+use numbers::size::FoundSize;
+use numbers::size::Size;
+ghost use mathlib.Core.Path.{_≡_};
+ghost use Prim.Native.Nat.{_≤_, _*_};
+ghost use lib.ListN.{length};
+ghost use Rattle.calls.specs.Direct.{isLong, isRead, directAnswer};
+
+// Whether edges of a and l entries and an output of n are long enough for a block of bs x bs.
+fn is_long(bs: usize, a: usize, l: usize, n: usize) -> bool
+    requires { ⌜ bs ≤ 64 ⌝ }
+    ensures { λ r. ⌜ r ≡ isLong bs a l n ⌝ }
+{
+    if a < 2 * bs {
+        return false;
+    }
+    if l < 2 * bs {
+        return false;
+    }
+    bs * bs <= n
+}
+
+// Whether 2 bs entries of both edges and the corner are in 0..m.
+fn is_read(bs: usize, m: i32, above: &[i32], left: &[i32], corner: i32) -> bool
+    requires { ⌜ (bs ≤ 64) × (2 * bs ≤ length (now above)) × (2 * bs ≤ length (now left)) ⌝ }
+    ensures { λ r. ⌜ r ≡ isRead bs m (now (above .entry)) (now (left .entry)) corner ⌝ }
+{
+    if !range::all_in_range(above, 2 * bs, m) {
+        return false;
+    }
+    if !range::all_in_range(left, 2 * bs, m) {
+        return false;
+    }
+    range::in_range(corner, m)
+}
+
+// What a direct call answers, whose output has n entries.
+pub fn direct(b: u16, d: u16, above: &[i32], left: &[i32], corner: i32, n: usize) -> Answer
+    ensures { λ r. ⌜ r ≡ directAnswer b d (now (above .entry)) (now (left .entry)) corner n ⌝ }
+{
+    let FoundSize::Is(_) = Size::of(b) else {
+        return Answer::BadSize;
+    };
+    let FoundDepth::Is(depth) = Depth::of(d) else {
+        return Answer::BadDepth;
+    };
+    let bs = b as usize;
+    if !is_long(bs, above.len(), left.len(), n) {
+        return Answer::ShortList;
+    }
+    if !is_read(bs, depth.max(), above, left, corner) {
+        return Answer::BadSample;
+    }
+    Answer::Done
+}

@@ -1,0 +1,3 @@
+-- Laws of refusals in order, and of promises.
+pub mod Ladder
+pub mod Promise

@@ -1,0 +1,19 @@
+-- A promise leaves no choice, and a call that is refused, or done, is one of the two sides of `lent`. Assumes nothing.
+use mathlib.Core.Path.{_≡_, refl, sym, _∙_, ap}
+use mathlib.Core.Bool.{Bool, true, false, cond}
+use Rattle.numbers.specs.Answer.{isDone}
+use Rattle.numbers.specs.declared.answer.Answer.{Answer}
+use Rattle.numbers.specs.declared.answer.Answer.the-variants.{Done}
+use Rattle.ladder.specs.Promise.{lent, Promise}
+
+-- any two results that a promise allows coincide, whatever the call, its answer's type and its memory
+pub coincide : {R M : Type 0} {answer r r' : R} {memory after after' : M}
+    → Promise answer memory r after → Promise answer memory r' after' → (r ≡ r') × (after ≡ after')
+coincide p q = (p .answers ∙ sym (q .answers), p .holds ∙ sym (q .holds))
+
+pub lent-refused : {M : Type 0} (answer : Answer) (done before : M) → isDone answer ≡ false → before ≡ lent answer done before
+lent-refused answer done before e = sym (ap (λ t. cond t done before) e)
+
+pub lent-done : {M : Type 0} (answer : Answer) (done before : M) → answer ≡ Done → done ≡ lent answer done before
+unfolding isDone
+lent-done answer done before e = sym (ap (λ a. lent a done before) e)

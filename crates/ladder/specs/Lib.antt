@@ -1,0 +1,3 @@
+-- Refusals in order, and what a call promises.
+pub mod Ladder
+pub mod Promise

@@ -1,0 +1,4 @@
+-- Laws of filled lists, blocks and tables.
+pub mod Fill
+pub mod Block
+pub mod Table

@@ -1,0 +1,3 @@
+-- What a lent list holds afterwards.
+pub mod Fill
+pub mod Block

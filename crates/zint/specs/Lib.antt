@@ -1,0 +1,2 @@
+-- Signed numbers in a range.
+pub mod Range
