@@ -1,0 +1,2 @@
+-- What a sample reads as.
+pub mod Sample
