@@ -6,3 +6,4 @@ pub mod flag;
 pub mod mode;
 pub mod size;
 pub mod word;
+pub mod plane;

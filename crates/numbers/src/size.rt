@@ -16,6 +16,11 @@ pub enum FoundSize {
 }
 
 impl Size {
+    // The largest B of the five, and twice that: how many entries an edge output has, `REF_CAP` of intrapred.rs.
+    pub const LARGEST: usize = 64;
+
+    pub const REF_CAP: usize = 128;
+
     // The size whose B the word is.
     pub fn of(b: u16) -> FoundSize
         ensures { λ r. ⌜ r ≡ sizeOf b ⌝ }
