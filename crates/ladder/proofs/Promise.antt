@@ -4,6 +4,7 @@ use mathlib.Core.Bool.{Bool, true, false, cond}
 use Rattle.numbers.specs.Answer.{isDone}
 use Rattle.numbers.specs.declared.answer.Answer.{Answer}
 use Rattle.numbers.specs.declared.answer.Answer.the-variants.{Done}
+use Rattle.numbers.proofs.Named.{done-is}
 use Rattle.ladder.specs.Promise.{lent, Promise}
 
 -- any two results that a promise allows coincide, whatever the call, its answer's type and its memory
@@ -17,3 +18,11 @@ lent-refused answer done before e = sym (ap (λ t. cond t done before) e)
 pub lent-done : {M : Type 0} (answer : Answer) (done before : M) → answer ≡ Done → done ≡ lent answer done before
 unfolding isDone
 lent-done answer done before e = sym (ap (λ a. lent a done before) e)
+
+-- a call that returns what its tests answered: refused, with its memory as it was, or done, with its memory written
+pub refused : {M : Type 0} {answer r : Answer} (done before : M) → r ≡ answer → isDone r ≡ false → Promise answer (lent answer done before) r before
+refused {answer = a} done before e n = record { answers = e; holds = lent-refused a done before (ap isDone (sym e) ∙ n) }
+
+pub finished : {M : Type 0} {answer r : Answer} (done before : M) {after : M} → r ≡ answer → isDone r ≡ true → after ≡ done
+    → Promise answer (lent answer done before) r after
+finished {answer = a} {r = r} done before e y h = record { answers = e; holds = h ∙ lent-done a done before (sym e ∙ done-is r y) }

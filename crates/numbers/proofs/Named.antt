@@ -1,9 +1,11 @@
 -- The two ways agree: the case of a case's number is that case, and the number of the case that is found is the number that was looked for.
 -- Here for the enums that the code only names. Assumes nothing.
-use mathlib.Core.Path.{_≡_, refl}
+use mathlib.Core.Path.{_≡_, refl, sym, subst}
+use mathlib.Core.Bool.{true}
 use lib.IntN.{ℤ}
 use Prim.Native.Nat.{ℕ}
 use native.Mathlib.Omega.{arith}
+use borrow.Author.Tests.{eqb-true}
 use Rattle.numbers.specs.Look.{Maybe, only, nothing}
 use Rattle.numbers.specs.Flag.{flagBit, flags, flagOf}
 use Rattle.numbers.specs.declared.flag.Flag.{Flag}
@@ -11,7 +13,7 @@ use Rattle.numbers.specs.declared.flag.Flag.the-variants.{Above, Left, L
 use Rattle.numbers.specs.Word.{wordPlace, words, wordOf}
 use Rattle.numbers.specs.declared.word.Word.{Word}
 use Rattle.numbers.specs.declared.word.Word.the-variants.{X, Y, Side, Bits, ModeWord, DirectionWord, DeltaWord, FlagWord, TopRight, BottomLeft, AvailableAbove, AvailableLeft, Base, MaxWidth, MaxHeight, Differences}
-use Rattle.numbers.specs.Answer.{answerNumber, answers, answerOf}
+use Rattle.numbers.specs.Answer.{answerNumber, answers, answerOf, isDone}
 use Rattle.numbers.specs.declared.answer.Answer.{Answer}
 use Rattle.numbers.specs.declared.answer.Answer.the-variants.{Done, BadSize, BadDepth, BadMode, OutsidePlane, NoNeighbour, BadBase, NoDifferences, BadSample, ShortList, BadColourDirection, BadReference, BadLines, BadColourSample, SumTooLarge, BadPlane, BadPlan, NotEachOnce, PairTurned}
 use Rattle.numbers.specs.Mode.{modeNumber, modes, modeOf}
@@ -88,3 +90,10 @@ mode-there d delta = (refl, (refl, (refl, (refl, (refl, tt)))))
 
 pub mode-back : (d : Dir) (delta : ℤ) (n : ℕ) (e : Mode) → modeOf d delta n ≡ only e → modeNumber e ≡ n
 mode-back d delta n e h = look-back modeNumber only nothing same none (modes d delta) n e h
+
+-- done is the one answer whose number is 0
+pub done-is : (a : Answer) → isDone a ≡ true → a ≡ Done
+unfolding isDone
+done-is a h =
+    let z : answerOf 0 ≡ only a = subst (λ n. answerOf n ≡ only a) (eqb-true (answerNumber a) 0 h) (answer-there a) in
+    sym (same Done a z)

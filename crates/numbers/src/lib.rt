@@ -4,6 +4,6 @@ pub mod depth;
 pub mod dir;
 pub mod flag;
 pub mod mode;
+pub mod plane;
 pub mod size;
 pub mod word;
-pub mod plane;

@@ -1,0 +1,2 @@
+-- Laws of Paeth.
+pub mod Laws

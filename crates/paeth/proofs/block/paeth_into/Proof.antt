@@ -1,0 +1,131 @@
+-- `paeth_into` meets its contract. The invariant: the first r rows are written, and o is r bs. Assumes nothing.
+use Prim.Native.Nat.{ℕ, _≤_, _+_, _-_, _*_}
+use native.Mathlib.Nat.{mul-le-mul-right}
+use native.Mathlib.Omega.{arith}
+use mathlib.Core.Path.{_≡_, refl, sym, _∙_, ap}
+use mathlib.Core.List.{List}
+use lib.ListN.{length, getD}
+use lib.IntN.{ℤ, pos, natAbs}
+use lib.Ieee.{Float}
+use mir.Syntax.{w32}
+use mir.Val.{toZ, ofZ}
+use mir.Facts.{toZ-ofZ}
+use Rattle.lists.specs.Fill.{filled}
+use Rattle.lists.specs.Block.{rows, sample, block}
+use Rattle.zint.proofs.Bound.{back-abs}
+use Rattle.zint.proofs.Range.{inside-abs}
+use Rattle.lists.proofs.Fill.{filled-none}
+use Rattle.lists.proofs.Block.{filled-row, part-length}
+use Rattle.paeth.specs.Paeth.{paeth, paethAt}
+use Rattle.paeth.proofs.block.paeth_into.Statement.{statement}
+use Rattle.paeth.proofs.block.paeth_into.Tie as tie
+
+abbrev at : ℕ → List ℤ → List ℤ → ℤ → ℕ → ℕ → Float
+at bs above left k r c = sample (paethAt bs above left k r c)
+
+abbrev Inv-loop : tie.InvT-loop
+Inv-loop bs above left corner out₀ o₀ r₀ out o r =
+    (r ≤ bs) × (o ≡ r * bs) × (length out ≡ length out₀) × (out ≡ filled o (rows bs (at bs above left (toZ w32 corner))) out₀)
+
+abbrev μ-loop : tie.MeasureT-loop
+μ-loop bs above left corner out₀ o₀ r₀ out o r = bs - r
+
+module _ (c : tie.In-loop Inv-loop μ-loop) where
+  -- the row lies in the output
+  room : c .before .loop .o + c .before .before .before .args .bs ≤ length (c .before .loop .out)
+  room = omega (arith, mul-le-mul-right (c .before .before .before .args .bs) (c .loop-test .taken))
+
+  -- the entry left of it is a sample
+  abbrev l : ℤ
+  l = getD (c .before .before .before .args .left .now) (c .before .loop .r) (pos 0)
+
+  l-small : natAbs l ≤ 4095
+  l-small = inside-abs 4095 l (c .before .before .before .pre .1 .1 (c .before .loop .r) (omega arith))
+
+  l-back : toZ w32 (ofZ w32 l) ≡ l
+  l-back = back-abs w32 l (omega (arith, l-small))
+
+loop-holds : tie.Need-loop-holds Inv-loop μ-loop
+loop-holds c = (omega arith, omega arith, refl, sym (filled-none _ _))
+
+add-e : tie.Need-add-e Inv-loop μ-loop
+add-e c = omega (arith, room c)
+
+mul-paeth-row : tie.Need-mul-paeth-row Inv-loop μ-loop
+mul-paeth-row c = omega arith
+
+shared-slice-copy-out-paeth-row : tie.Need-shared-slice-copy-out-paeth-row Inv-loop μ-loop
+shared-slice-copy-out-paeth-row c = omega arith
+
+mul-paeth-row-2 : tie.Need-mul-paeth-row-2 Inv-loop μ-loop
+mul-paeth-row-2 c = omega (arith, room (c .before))
+
+sub-paeth-row : tie.Need-sub-paeth-row Inv-loop μ-loop
+sub-paeth-row c = omega arith
+
+part-paeth-row-start : tie.Need-part-paeth-row-start Inv-loop μ-loop
+part-paeth-row-start c = omega arith
+
+part-paeth-row-end : tie.Need-part-paeth-row-end Inv-loop μ-loop
+part-paeth-row-end c = room (c .before)
+
+paeth-row-requires : tie.Need-paeth-row-requires Inv-loop μ-loop
+paeth-row-requires c κs =
+    let k = c .before .before .before in
+    let s = k .before .before in
+    let n = part-length (k .loop .o) (s .args .bs) (k .loop .out) (room (c .before .before)) in
+    simp (toZ-ofZ, s .fits .corner, l-back (c .before .before), n)
+    (s .pre .0 .0, s .pre .1 .0, l-small (c .before .before), s .pre .1 .2)
+
+add-r : tie.Need-add-r Inv-loop μ-loop
+add-r c = omega arith
+
+loop-less : tie.Need-loop-less Inv-loop μ-loop
+loop-less c = omega arith
+
+loop-again : tie.Need-loop-again Inv-loop μ-loop
+loop-again c =
+    let i = c .before .before .before .before .before in
+    let k = i .before in
+    let s = k .before .before in
+    let K = toZ w32 (ofZ w32 (s .args .corner)) in (
+      omega arith,
+      omega arith,
+      c .before .out .given .1 ∙ k .loop .inv .2,
+      filled-row (s .args .bs) (k .loop .r) (k .loop .o) (at (s .args .bs) (s .args .above .now) (s .args .left .now) K) _ _ _ _
+          (k .loop .inv .1) (room i) (k .loop .inv .3) (c .before .before .paeth-row .ensures)
+          (λ j h. ap (λ z. sample (paeth z (getD (s .args .above .now) j (pos 0)) K)) (l-back i)),
+    )
+
+same-length : tie.Need-same-length Inv-loop μ-loop
+same-length c = c .before .loop .inv .2
+
+returns : tie.Need-returns Inv-loop μ-loop
+unfolding block
+returns c =
+    let k = c .before in
+    let s = k .before .before in
+    let r : k .loop .r ≡ s .args .bs = omega arith in
+    let o : k .loop .o ≡ s .args .bs * s .args .bs = k .loop .inv .1 ∙ ap (λ x. x * s .args .bs) r in
+    k .loop .inv .3 ∙ rw o (ap (λ z. filled (s .args .bs * s .args .bs) (rows (s .args .bs) (at (s .args .bs) (s .args .above .now) (s .args .left .now) z)) (s .args .out .now)) (toZ-ofZ (s .fits .corner)))
+
+pub paeth-into-spec : {M : Type 1} → statement M
+paeth-into-spec =
+    tie.close
+    (tie.spec
+    Inv-loop
+    μ-loop
+    loop-holds
+    add-e
+    mul-paeth-row
+    shared-slice-copy-out-paeth-row
+    mul-paeth-row-2
+    sub-paeth-row
+    part-paeth-row-start
+    part-paeth-row-end
+    paeth-row-requires
+    add-r
+    loop-less
+    loop-again
+    same-length
+    returns)

@@ -1,0 +1,2 @@
+-- The Paeth predictor, from document 01.
+pub mod Paeth

@@ -1,0 +1,39 @@
+// One sample. The distances of b = left + top - corner from left and from top are those of top and of left from corner, and so need no b.
+ghost use mathlib.Core.Path.{_≡_};
+ghost use Prim.Native.Nat.{_+_, _^_, _≤_, _<_};
+ghost use lib.IntN.{pos, natAbs};
+ghost use Rattle.lists.specs.Block.{sample};
+ghost use Rattle.paeth.specs.Paeth.{dist, paeth};
+
+// |a - b|
+fn abs_diff(a: i32, b: i32) -> i32
+    requires { ⌜ natAbs a + natAbs b < 2 ^ 31 ⌝ }
+    ensures { λ r. ⌜ r ≡ pos (dist a b) ⌝ }
+{
+    if a > b { a - b } else { b - a }
+}
+
+// The nearest of left, top and corner to left + top - corner.
+pub fn paeth_single(left: i32, top: i32, corner: i32) -> i32
+    requires { ⌜ (natAbs left ≤ 4095) × (natAbs top ≤ 4095) × (natAbs corner ≤ 4095) ⌝ }
+    ensures { λ r. ⌜ r ≡ paeth left top corner ⌝ }
+{
+    let p_left = abs_diff(top, corner);
+    let p_top = abs_diff(left, corner);
+    let p_corner = abs_diff(left + top - corner, corner);
+    if p_left <= p_top && p_left <= p_corner {
+        left
+    } else if p_top <= p_corner {
+        top
+    } else {
+        corner
+    }
+}
+
+// The same as a sample.
+pub fn paeth_sample(left: i32, top: i32, corner: i32) -> f32
+    requires { ⌜ (natAbs left ≤ 4095) × (natAbs top ≤ 4095) × (natAbs corner ≤ 4095) ⌝ }
+    ensures { λ r. ⌜ r ≡ sample (paeth left top corner) ⌝ }
+{
+    paeth_single(left, top, corner) as f32
+}
