@@ -30,10 +30,7 @@ fn is_read(bs: usize, m: i32, above: &[i32], left: &[i32], corner: i32) -> bool
     requires { ⌜ (bs ≤ 64) × (2 * bs ≤ length (now above)) × (2 * bs ≤ length (now left)) ⌝ }
     ensures { λ r. ⌜ r ≡ isRead bs m (now (above .entry)) (now (left .entry)) corner ⌝ }
 {
-    if !range::all_in_range(above, 2 * bs, m) {
-        return false;
-    }
-    if !range::all_in_range(left, 2 * bs, m) {
+    if !range::both_in_range(above, left, 2 * bs, m) {
         return false;
     }
     range::in_range(corner, m)

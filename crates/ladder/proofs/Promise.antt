@@ -1,7 +1,8 @@
 -- A promise leaves no choice, and a call that is refused, or done, is one of the two sides of `lent`. Assumes nothing.
 use mathlib.Core.Path.{_≡_, refl, sym, _∙_, ap}
 use mathlib.Core.Bool.{Bool, true, false, cond}
-use Rattle.numbers.specs.Answer.{isDone}
+use Prim.Native.Nat.{ℕ}
+use Rattle.numbers.specs.Answer.{answerNumber, isDone}
 use Rattle.numbers.specs.declared.answer.Answer.{Answer}
 use Rattle.numbers.specs.declared.answer.Answer.the-variants.{Done}
 use Rattle.numbers.proofs.Named.{done-is}
@@ -26,3 +27,8 @@ refused {answer = a} done before e n = record { answers = e; holds = lent-refuse
 pub finished : {M : Type 0} {answer r : Answer} (done before : M) {after : M} → r ≡ answer → isDone r ≡ true → after ≡ done
     → Promise answer (lent answer done before) r after
 finished {answer = a} {r = r} done before e y h = record { answers = e; holds = h ∙ lent-done a done before (sym e ∙ done-is r y) }
+
+-- the same promise, of the answer's number
+pub numbered : {M : Type 0} {answer a : Answer} {memory after : M} {r : ℕ} → Promise answer memory a after → r ≡ answerNumber a
+    → Promise (answerNumber answer) memory r after
+numbered p e = record { answers = e ∙ ap answerNumber (p .answers); holds = p .holds }

@@ -1,0 +1,27 @@
+// rust.rs: the original functions, each behind one call that is not inlined, as the library's are.
+use crate::original::{self, IntraRefSpec};
+
+#[inline(never)]
+pub fn paeth_into(bs: usize, above: &[i32], left: &[i32], corner: i32, out: &mut [f32]) {
+    original::paeth_into(bs, above, left, corner, out)
+}
+
+#[inline(never)]
+pub fn smooth_into(bs: usize, above: &[i32], left: &[i32], out: &mut [f32]) {
+    original::smooth_into(bs, above, left, out)
+}
+
+#[inline(never)]
+pub fn smooth_v_into(bs: usize, above: &[i32], left: &[i32], out: &mut [f32]) {
+    original::smooth_v_into(bs, above, left, out)
+}
+
+#[inline(never)]
+pub fn smooth_h_into(bs: usize, above: &[i32], left: &[i32], out: &mut [f32]) {
+    original::smooth_h_into(bs, above, left, out)
+}
+
+#[inline(never)]
+pub fn build_refs(plane: &[f32], spec: &IntraRefSpec) -> ([i32; 128], [i32; 128], i32) {
+    original::build_refs(plane, spec)
+}

@@ -1,0 +1,125 @@
+/* latchorchard.h: the C interface of Latchorchard's intra prediction, for C and C++.
+ *
+ * Every function takes any input and returns LATCH_DONE (0) or the number of a refusal.
+ *  - A slice is a pointer and then its length in entries. An empty slice may have any pointer.
+ *  - A refused call changes nothing that it was lent.
+ *  - A list that is longer than needed keeps its tail; entries past the needed ones are not looked at.
+ *  - The slices of one call must not overlap.
+ *  - Calls share no memory of their own: several threads may call at once on slices that do not overlap.
+ *
+ * B is the block size: 4, 8, 16, 32 or 64. D is the bit depth: 8, 10 or 12. M = 2^D - 1.
+ */
+#ifndef LATCHORCHARD_H
+#define LATCHORCHARD_H
+
+#include <stdbool.h>
+#include <stddef.h>
+#include <stdint.h>
+
+#ifdef __cplusplus
+extern "C" {
+#endif
+
+/* The answers of the calls below. */
+enum latch_answer {
+    LATCH_DONE = 0,          /* the work is done */
+    LATCH_BAD_SIZE = 1,      /* B is none of 4, 8, 16, 32, 64 */
+    LATCH_BAD_DEPTH = 2,     /* D is none of 8, 10, 12 */
+    LATCH_OUTSIDE_PLANE = 4, /* x + B > width or y + B > height */
+    LATCH_NO_NEIGHBOUR = 5,  /* a neighbour that is said to be there is not in the plane */
+    LATCH_BAD_BASE = 6,      /* neither neighbour is there, and base is not in 1..M-1 */
+    LATCH_BAD_SAMPLE = 8,    /* a sample or edge entry that is read is not a number in 0..M */
+    LATCH_SHORT_LIST = 9,    /* a list is shorter than the call needs */
+    LATCH_BAD_PLANE = 20     /* width or height is not in 4..4096, or the plane's length is not width x height */
+};
+
+/* How many entries latch_build_refs writes to each edge: 2B at the largest B. */
+#define LATCH_EDGE_ENTRIES 128
+
+/* Builds the edges of the B x B block whose first sample is at column x, row y of a plane of f32 samples, row by row.
+ * A sample v is read as v + 0.5, rounded once to f32, without its fraction; -0.0 is in range.
+ *
+ * Writes above[0..127] and left[0..127] (entries 2B..127 are 0) and corner[0]. With above there, entries 0..B-1 are the
+ * samples over the block, of which the first available_above are read and the last of those repeats; then come
+ * min(top_right, B) samples from column x + B on, and the last entry repeats up to 2B. Left is the same down column x - 1,
+ * with available_left and bottom_left. A missing neighbour is filled from the other one, or, with neither there, above
+ * with base - 1, left with base + 1 and the corner with base.
+ *
+ * Lent: plane, exactly width x height entries; above and left, at least 128 entries each; corner, at least one entry.
+ *
+ * Refusals, in the order of checking:
+ *   20  width or height is not in 4..4096, or plane_len is not width x height
+ *    1  b is none of 4, 8, 16, 32, 64
+ *    2  d is none of 8, 10, 12
+ *    4  x + B > width or y + B > height
+ *    5  have_above, and y = 0 or available_above = 0 or x + B + min(top_right, B) > width;
+ *       have_left, and x = 0 or available_left = 0 or y + B + min(bottom_left, B) > height
+ *    6  neither have_above nor have_left, and base is not in 1..M-1
+ *    9  above_len or left_len is under 128, or corner_len is 0
+ *    8  a sample that is read is not a number in 0..M
+ * A refused call changes nothing; a longer above, left or corner keeps its tail; the slices must not overlap. */
+uint32_t latch_build_refs(const float *plane, size_t plane_len, size_t width, size_t height,
+                          uint16_t x, uint16_t y, uint16_t b, uint16_t d, bool have_above, bool have_left,
+                          uint16_t top_right, uint16_t bottom_left,
+                          uint16_t available_above, uint16_t available_left, uint16_t base,
+                          int32_t *above, size_t above_len, int32_t *left, size_t left_len,
+                          int32_t *corner, size_t corner_len);
+
+/* Paeth: each sample of the block is the nearest of the entry left of it, the entry above it and the corner to
+ * left + above - corner; on a tie left goes before above, and above before the corner.
+ *
+ * Writes out[0..B*B-1], row by row. Lent: above and left, at least 2B entries each; out, at least B x B entries.
+ *
+ * Refusals, in the order of checking:
+ *    1  b is none of 4, 8, 16, 32, 64
+ *    2  d is none of 8, 10, 12
+ *    9  above_len or left_len is under 2B, or out_len is under B x B
+ *    8  one of the first 2B entries of above or left, or the corner, is not in 0..M
+ * A refused call changes nothing; a longer out keeps its tail; the slices must not overlap. */
+uint32_t latch_paeth(uint16_t b, uint16_t d, const int32_t *above, size_t above_len,
+                     const int32_t *left, size_t left_len, int32_t corner, float *out, size_t out_len);
+
+/* smooth: each sample of the block is the rounded mean of what latch_smooth_v and latch_smooth_h give there.
+ *
+ * Writes out[0..B*B-1], row by row. Lent: above and left, at least 2B entries each; out, at least B x B entries.
+ *
+ * Refusals, in the order of checking:
+ *    1  b is none of 4, 8, 16, 32, 64
+ *    2  d is none of 8, 10, 12
+ *    9  above_len or left_len is under 2B, or out_len is under B x B
+ *    8  one of the first 2B entries of above or left, or the corner, is not in 0..M
+ * A refused call changes nothing; a longer out keeps its tail; the slices must not overlap. */
+uint32_t latch_smooth(uint16_t b, uint16_t d, const int32_t *above, size_t above_len,
+                      const int32_t *left, size_t left_len, int32_t corner, float *out, size_t out_len);
+
+/* smooth_v: each column of the block runs from its entry above down to left[B], the entry past the block's left side.
+ *
+ * Writes out[0..B*B-1], row by row. Lent: above and left, at least 2B entries each; out, at least B x B entries.
+ *
+ * Refusals, in the order of checking:
+ *    1  b is none of 4, 8, 16, 32, 64
+ *    2  d is none of 8, 10, 12
+ *    9  above_len or left_len is under 2B, or out_len is under B x B
+ *    8  one of the first 2B entries of above or left, or the corner, is not in 0..M
+ * A refused call changes nothing; a longer out keeps its tail; the slices must not overlap. */
+uint32_t latch_smooth_v(uint16_t b, uint16_t d, const int32_t *above, size_t above_len,
+                        const int32_t *left, size_t left_len, int32_t corner, float *out, size_t out_len);
+
+/* smooth_h: each row of the block runs from its entry at the left across to above[B], the entry past the block's top side.
+ *
+ * Writes out[0..B*B-1], row by row. Lent: above and left, at least 2B entries each; out, at least B x B entries.
+ *
+ * Refusals, in the order of checking:
+ *    1  b is none of 4, 8, 16, 32, 64
+ *    2  d is none of 8, 10, 12
+ *    9  above_len or left_len is under 2B, or out_len is under B x B
+ *    8  one of the first 2B entries of above or left, or the corner, is not in 0..M
+ * A refused call changes nothing; a longer out keeps its tail; the slices must not overlap. */
+uint32_t latch_smooth_h(uint16_t b, uint16_t d, const int32_t *above, size_t above_len,
+                        const int32_t *left, size_t left_len, int32_t corner, float *out, size_t out_len);
+
+#ifdef __cplusplus
+}
+#endif
+
+#endif

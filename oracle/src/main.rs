@@ -1,0 +1,28 @@
+// main.rs: holds the proved library against the original Rust. One argument: the scale; 1 is the usual run.
+mod calls;
+mod draw;
+mod edges;
+mod guard;
+mod inputs;
+mod original;
+mod plane;
+mod predictors;
+mod random;
+mod refusals;
+mod spec;
+mod tally;
+mod util;
+
+const SEED: u64 = 0x4C61_7463_686F_7263;
+
+fn main() {
+    let word = std::env::args().nth(1).unwrap_or_default();
+    let Some(scale) = word.parse::<f64>().ok().filter(|s| *s > 0.0) else {
+        println!("oracle: the scale is a number above 0, not {word:?}");
+        std::process::exit(2);
+    };
+    println!("oracle: seed {SEED}, scale {scale}");
+    let samples = predictors::compare(SEED, scale);
+    let sets = edges::compare(SEED, scale);
+    println!("oracle: {samples} predicted samples, {sets} edge sets, 0 differences");
+}

@@ -1,0 +1,33 @@
+// tally.rs: how many calls were made, and what they answered.
+
+pub struct Tally {
+    name: String,
+    answers: [u64; 32],
+    pub samples: u64,
+}
+
+impl Tally {
+    pub fn new(name: &str) -> Tally {
+        Tally { name: name.to_string(), answers: [0; 32], samples: 0 }
+    }
+
+    pub fn add(&mut self, number: u32) {
+        self.answers[number as usize] += 1;
+    }
+
+    pub fn accepted(&self) -> u64 {
+        self.answers[0]
+    }
+
+    /// Prints the counts; `unit` says what an accepted call made. Ends the run if one of the due numbers never came.
+    pub fn print(&self, unit: &str, due: &[usize]) {
+        let refused: Vec<String> =
+            due.iter().filter(|&&n| n != 0).map(|&n| format!("{n}: {}", self.answers[n])).collect();
+        let samples = if self.samples > 0 { format!(", {} samples", self.samples) } else { String::new() };
+        println!("{:<17} {} {unit}{samples}; refused {}", self.name, self.accepted(), refused.join(", "));
+        if let Some(n) = due.iter().find(|&&n| self.answers[n] == 0) {
+            println!("oracle: {} never answered {n}: the cases are too few", self.name);
+            std::process::exit(1);
+        }
+    }
+}

@@ -1,0 +1,61 @@
+/* check.h: what the C tests share: counting checks, lending memory between guards, and trying faults alone and in pairs. */
+#ifndef CHECK_H
+#define CHECK_H
+
+#include <stdbool.h>
+#include <stddef.h>
+#include <stdint.h>
+
+/* Counts one check; a failed one is printed. */
+void check(bool holds, const char *format, ...) __attribute__((format(printf, 2, 3)));
+/* Prints the count and says how the program ends. */
+int checks_done(void);
+
+/* A zone lends bytes between two guards. Everything in it starts as a fixed pattern. */
+enum { ZONE_GUARD = 256, ZONE_MOST = (1 << 18) + (1 << 12) };
+struct zone {
+    _Alignas(16) unsigned char now[ZONE_GUARD + ZONE_MOST + ZONE_GUARD];
+    unsigned char before[ZONE_GUARD + ZONE_MOST + ZONE_GUARD];
+    size_t lent;
+};
+/* Where the lent bytes start. None lent: any address, null among them, in turn. */
+void *zone_lend(struct zone *zone, size_t bytes);
+/* Takes down what the zone holds; then zone_kept says whether all but the first `written` lent bytes is still so. */
+void zone_remember(struct zone *zone);
+bool zone_kept(const struct zone *zone, size_t written);
+
+/* A call's parameters are numbered fields from 1 on. */
+enum { FIELDS_MOST = 32, SETS_MOST = 4 };
+/* Encodes M + k, for the M of the depth in use. */
+#define M_PLUS(k) ((INT64_C(1) << 40) + (k))
+/* M + k where M_PLUS(k) stands, else the value. */
+int64_t with_max(int64_t value, int64_t most);
+
+/* A fault sets fields of an accepted call; alone it gets `number` (0: it is no fault, the call stays accepted).
+ * `uses` has a bit for each field that it leans on without setting it. */
+struct fault {
+    const char *name;
+    uint32_t number;
+    struct { int field; int64_t value; } sets[SETS_MOST];
+    uint32_t uses;
+};
+struct call {
+    char name[64];
+    const uint32_t *order;       /* its refusals in the order of checking, then 0 */
+    const struct fault *faults;
+    size_t faults_count;
+    int64_t plain[FIELDS_MOST];  /* the fields of an accepted call */
+    /* Makes the call. `kept`: the guards, the inputs and the tails are untouched, and with a refusal all that was lent. */
+    uint32_t (*make)(const struct call *call, const int64_t *fields, bool *kept);
+    const void *target;          /* what `make` calls, if it serves several functions */
+};
+/* Tries each fault alone and each pair that can stand together: the earlier number in the call's order is due. */
+void try_faults(const struct call *call);
+
+#define COUNT(array) (sizeof(array) / sizeof((array)[0]))
+
+void test_paper(void);
+void test_direct(void);
+void test_build_refs(void);
+
+#endif

@@ -1,0 +1,111 @@
+/* direct.c: the four direct predictor calls at every size and depth: each refusal, each pair, lengths and tails. */
+#include "check.h"
+
+#include <stdio.h>
+#include <string.h>
+
+#include "latchorchard.h"
+
+typedef uint32_t predictor(uint16_t, uint16_t, const int32_t *, size_t, const int32_t *, size_t, int32_t, float *, size_t);
+
+static const struct { const char *name; predictor *function; } predictors[] = {
+    {"latch_paeth", latch_paeth},
+    {"latch_smooth", latch_smooth},
+    {"latch_smooth_v", latch_smooth_v},
+    {"latch_smooth_h", latch_smooth_h},
+};
+
+/* Lengths are told as entries more than needed; NONE is an empty slice. */
+enum { B = 1, D, ABOVE_MORE, LEFT_MORE, OUT_MORE, ABOVE_AT, ABOVE_IS, LEFT_AT, LEFT_IS, CORNER };
+#define NONE INT64_MIN
+/* Places in an edge: one of these entries is set to ABOVE_IS or LEFT_IS. */
+enum { NOWHERE, FIRST, LAST_OF_BLOCK, PAST_BLOCK, LAST, BEYOND };
+
+static const uint32_t order[] = {1, 2, 9, 8, 0};
+
+static const struct fault faults[] = {
+    {"B 0", 1, {{B, 0}}, 0},
+    {"B 2", 1, {{B, 2}}, 0},
+    {"B 5", 1, {{B, 5}}, 0},
+    {"B 12", 1, {{B, 12}}, 0},
+    {"B 63", 1, {{B, 63}}, 0},
+    {"B 128", 1, {{B, 128}}, 0},
+    {"B 65535", 1, {{B, 65535}}, 0},
+    {"D 0", 2, {{D, 0}}, 0},
+    {"D 9", 2, {{D, 9}}, 0},
+    {"D 11", 2, {{D, 11}}, 0},
+    {"D 16", 2, {{D, 16}}, 0},
+    {"D 65535", 2, {{D, 65535}}, 0},
+    {"above one short", 9, {{ABOVE_MORE, -1}}, 0},
+    {"above empty", 9, {{ABOVE_MORE, NONE}}, 0},
+    {"left one short", 9, {{LEFT_MORE, -1}}, 0},
+    {"left empty", 9, {{LEFT_MORE, NONE}}, 0},
+    {"out one short", 9, {{OUT_MORE, -1}}, 0},
+    {"out empty", 9, {{OUT_MORE, NONE}}, 0},
+    {"above longer", 0, {{ABOVE_MORE, 3}}, 0},
+    {"left longer", 0, {{LEFT_MORE, 3}}, 0},
+    {"out longer", 0, {{OUT_MORE, 3}}, 0},
+    {"above[0] -1", 8, {{ABOVE_AT, FIRST}, {ABOVE_IS, -1}}, 0},
+    {"above[0] M", 0, {{ABOVE_AT, FIRST}, {ABOVE_IS, M_PLUS(0)}}, 0},
+    {"above[0] 0", 0, {{ABOVE_AT, FIRST}, {ABOVE_IS, 0}}, 0},
+    {"above[B-1] M+1", 8, {{ABOVE_AT, LAST_OF_BLOCK}, {ABOVE_IS, M_PLUS(1)}}, 0},
+    {"above[B] least", 8, {{ABOVE_AT, PAST_BLOCK}, {ABOVE_IS, INT32_MIN}}, 0},
+    {"above[2B-1] M+1", 8, {{ABOVE_AT, LAST}, {ABOVE_IS, M_PLUS(1)}}, 0},
+    {"above[2B] -1", 0, {{ABOVE_AT, BEYOND}, {ABOVE_IS, -1}, {ABOVE_MORE, 1}}, 0},
+    {"left[0] M+1", 8, {{LEFT_AT, FIRST}, {LEFT_IS, M_PLUS(1)}}, 0},
+    {"left[B-1] -1", 8, {{LEFT_AT, LAST_OF_BLOCK}, {LEFT_IS, -1}}, 0},
+    {"left[B] M", 0, {{LEFT_AT, PAST_BLOCK}, {LEFT_IS, M_PLUS(0)}}, 0},
+    {"left[B] greatest", 8, {{LEFT_AT, PAST_BLOCK}, {LEFT_IS, INT32_MAX}}, 0},
+    {"left[2B-1] -1", 8, {{LEFT_AT, LAST}, {LEFT_IS, -1}}, 0},
+    {"left[2B] M+1", 0, {{LEFT_AT, BEYOND}, {LEFT_IS, M_PLUS(1)}, {LEFT_MORE, 1}}, 0},
+    {"corner 0", 0, {{CORNER, 0}}, 0},
+    {"corner M", 0, {{CORNER, M_PLUS(0)}}, 0},
+    {"corner -1", 8, {{CORNER, -1}}, 0},
+    {"corner M+1", 8, {{CORNER, M_PLUS(1)}}, 0},
+    {"corner least", 8, {{CORNER, INT32_MIN}}, 0},
+    {"corner greatest", 8, {{CORNER, INT32_MAX}}, 0},
+};
+
+static struct zone above_zone, left_zone, out_zone;
+
+static size_t length(int64_t needed, int64_t more) {
+    return more == NONE ? 0 : (size_t)(needed + more < 0 ? 0 : needed + more);
+}
+
+/* An edge of small whole numbers, with one entry set; its tail keeps the zone's pattern. */
+static const int32_t *edge(struct zone *zone, size_t len, int64_t b, int64_t at, int64_t value) {
+    int32_t *entries = zone_lend(zone, len * sizeof *entries);
+    for (size_t i = 0; i < len && i < (size_t)(2 * b); i++) entries[i] = (int32_t)(i * 7 % 200);
+    const int64_t places[] = {-1, 0, b - 1, b, 2 * b - 1, 2 * b};
+    if (at != NOWHERE && places[at] >= 0 && (size_t)places[at] < len) entries[places[at]] = (int32_t)value;
+    zone_remember(zone);
+    return entries;
+}
+
+static uint32_t make(const struct call *call, const int64_t *f, bool *kept) {
+    predictor *const *function = call->target;
+    int64_t b = f[B] > 128 ? 128 : f[B], most = (INT64_C(1) << call->plain[D]) - 1;
+    size_t above_len = length(2 * b, f[ABOVE_MORE]), left_len = length(2 * b, f[LEFT_MORE]);
+    size_t out_len = length(b * b, f[OUT_MORE]);
+    const int32_t *above = edge(&above_zone, above_len, b, f[ABOVE_AT], with_max(f[ABOVE_IS], most));
+    const int32_t *left = edge(&left_zone, left_len, b, f[LEFT_AT], with_max(f[LEFT_IS], most));
+    float *out = zone_lend(&out_zone, out_len * sizeof *out);
+    zone_remember(&out_zone);
+    uint32_t answer = (*function)((uint16_t)f[B], (uint16_t)f[D], above, above_len, left, left_len,
+                                  (int32_t)with_max(f[CORNER], most), out, out_len);
+    size_t written = answer == LATCH_DONE ? (size_t)(b * b) * sizeof *out : 0;
+    *kept = zone_kept(&above_zone, 0) && zone_kept(&left_zone, 0) && zone_kept(&out_zone, written);
+    return answer;
+}
+
+void test_direct(void) {
+    static const int64_t sizes[] = {4, 8, 16, 32, 64}, depths[] = {8, 10, 12};
+    for (size_t p = 0; p < COUNT(predictors); p++)
+        for (size_t i = 0; i < COUNT(sizes) * COUNT(depths); i++) {
+            int64_t b = sizes[i % COUNT(sizes)], d = depths[i / COUNT(sizes)];
+            struct call call = {.order = order, .faults = faults, .faults_count = COUNT(faults), .make = make,
+                                .plain = {[B] = b, [D] = d, [CORNER] = 100}, .target = &predictors[p].function};
+            snprintf(call.name, sizeof call.name, "%s B %d D %d", predictors[p].name, (int)b, (int)d);
+            try_faults(&call);
+        }
+}

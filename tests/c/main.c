@@ -1,0 +1,9 @@
+/* main.c: the C test of the C interface: the numbers on paper, every refusal of every call, and what a call must keep. */
+#include "check.h"
+
+int main(void) {
+    test_paper();
+    test_direct();
+    test_build_refs();
+    return checks_done();
+}
