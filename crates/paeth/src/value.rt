@@ -1,16 +1,16 @@
 // One sample. The distances of b = left + top - corner from left and from top are those of top and of left from corner, and so need no b.
 ghost use mathlib.Core.Path.{_≡_};
 ghost use Prim.Native.Nat.{_+_, _^_, _≤_, _<_};
-ghost use lib.IntN.{pos, natAbs};
+ghost use lib.IntN.{pos, natAbs, negℤ};
 ghost use Rattle.lists.specs.Block.{sample};
 ghost use Rattle.paeth.specs.Paeth.{dist, paeth};
 
-// |a - b|
-fn abs_diff(a: i32, b: i32) -> i32
+// How near a is to b: minus their distance, so that the compiler compares numbers with a sign, as the processor does.
+fn nearness(a: i32, b: i32) -> i32
     requires { ⌜ natAbs a + natAbs b < 2 ^ 31 ⌝ }
-    ensures { λ r. ⌜ r ≡ pos (dist a b) ⌝ }
+    ensures { λ r. ⌜ r ≡ negℤ (pos (dist a b)) ⌝ }
 {
-    if a > b { a - b } else { b - a }
+    if a > b { b - a } else { a - b }
 }
 
 // The nearest of left, top and corner to left + top - corner.
@@ -18,12 +18,12 @@ pub fn paeth_single(left: i32, top: i32, corner: i32) -> i32
     requires { ⌜ (natAbs left ≤ 4095) × (natAbs top ≤ 4095) × (natAbs corner ≤ 4095) ⌝ }
     ensures { λ r. ⌜ r ≡ paeth left top corner ⌝ }
 {
-    let p_left = abs_diff(top, corner);
-    let p_top = abs_diff(left, corner);
-    let p_corner = abs_diff(left + top - corner, corner);
-    if p_left <= p_top && p_left <= p_corner {
+    let to_left = nearness(top, corner);
+    let to_top = nearness(left, corner);
+    let to_corner = nearness(left + top - corner, corner);
+    if to_left >= to_top && to_left >= to_corner {
         left
-    } else if p_top <= p_corner {
+    } else if to_top >= to_corner {
         top
     } else {
         corner

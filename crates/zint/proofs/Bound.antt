@@ -42,13 +42,14 @@ abs-shr (negsuc a) m = omega (arith, div-le-self a m)
 pub abs-swap : (x y : ℤ) → natAbs (x -ℤ y) ≡ natAbs (y -ℤ x)
 abs-swap x y = let e : x -ℤ y ≡ negℤ (y -ℤ x) = same _ _ (omega (arith, sub x y, sub y x, neg (y -ℤ x))) in ap natAbs e ∙ abs-neg (y -ℤ x)
 
-pub not-neg : (z : ℤ) → dn z ≤ up z → z ≡ pos (natAbs z)
-not-neg (pos n) h = refl
-not-neg (negsuc n) h = absurd (omega arith)
+-- a number that is not above 0, and a difference whose sign a test has shown
+pub not-pos : (z : ℤ) → up z ≤ dn z → z ≡ negℤ (pos (natAbs z))
+not-pos (pos zero) h = refl
+not-pos (pos (suc n)) h = absurd (omega arith)
+not-pos (negsuc n) h = refl
 
--- a difference whose sign a test has shown
-pub sub-up : (x y : ℤ) → leZ y x ≡ true → x -ℤ y ≡ pos (natAbs (x -ℤ y))
-sub-up x y h = not-neg (x -ℤ y) (omega (arith, leZ-true y x h, sub x y))
+pub sub-down : (x y : ℤ) → leZ x y ≡ true → x -ℤ y ≡ negℤ (pos (natAbs (x -ℤ y)))
+sub-down x y h = not-pos (x -ℤ y) (omega (arith, leZ-true x y h, sub x y))
 
 -- ---- Bound
 pub record Bound (m : ℕ) (z : ℤ) : Type 0 where

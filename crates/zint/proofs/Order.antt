@@ -1,11 +1,11 @@
 -- Order: what a test of signed numbers says of their parts, and a test from what is known. Assumes nothing.
 use mathlib.Core.Path.{_≡_, refl, sym, ap, subst}
 use mathlib.Core.Bool.{Bool, true, false, cond}
-use Prim.Native.Nat.{ℕ, suc, _+_, _≤_, _<_}
+use Prim.Native.Nat.{ℕ, zero, suc, _+_, _≤_, _<_}
 use native.Mathlib.Omega.{arith}
-use lib.IntN.{ℤ, pos, negsuc}
+use lib.IntN.{ℤ, pos, negsuc, negℤ}
 use lib.Signed.{leZ, ltZ, nonNeg}
-use lib.Dec.{T, eqb, eqb→eq}
+use lib.Dec.{T, leb, eqb, eqb→eq, leb·suc-suc}
 use borrow.Author.Tests.{ltb-true, ltb-false, leb-true, leb-false, lt-ltb, le-ltb, le-leb, lt-leb}
 use Rattle.zint.proofs.Parts.{up, dn}
 
@@ -74,6 +74,13 @@ nonNeg-of-not-lt (negsuc a) e = sym e
 pub neg-of-lt : (x : ℤ) → ltZ x (pos 0) ≡ true → nonNeg x ≡ false
 neg-of-lt (pos a) e = absurd (omega (arith, ltZ-true (pos a) (pos 0) e))
 neg-of-lt (negsuc a) e = refl
+
+-- of two numbers at most 0, the larger is the smaller in size
+pub le-neg : (a b : ℕ) → leZ (negℤ (pos a)) (negℤ (pos b)) ≡ leb b a
+le-neg zero zero = refl
+le-neg zero (suc b) = sym (lt-leb (suc b) zero (omega arith))
+le-neg (suc a) zero = sym (le-leb zero (suc a) (omega arith))
+le-neg (suc a) (suc b) = sym (leb·suc-suc b a)
 
 -- ---- a test of equality that computes
 abbrev pub eqZ : ℤ → ℤ → Bool
