@@ -1,4 +1,5 @@
 -- The promises of the repository's own calls, with the answer's number in the answer's place.
+use mathlib.Core.Bool.{Bool}
 use mathlib.Core.List.{List}
 use Prim.Native.Nat.{ℕ}
 use lib.IntN.{ℤ}
@@ -7,6 +8,8 @@ use lib.ListN.{length}
 use Rattle.numbers.specs.Answer.{answerNumber}
 use Rattle.lists.specs.Block.{block}
 use Rattle.ladder.specs.Promise.{lent, Promise}
+use Rattle.edges.specs.Refs.{Lists, answerFor, refsOf}
+use Rattle.edges.specs.declared.spec.IntraRefSpec.{IntraRefSpec}
 use Rattle.calls.specs.Direct.{Predictor, directAnswer}
 
 -- a predictor's call
@@ -15,3 +18,26 @@ PredictedC at B D above left k before after r =
     Promise (answerNumber (directAnswer B D above left k (length before)))
     (lent (directAnswer B D above left k (length before)) (block B B (at B above left k) before) before)
     r after
+
+-- `build_refs`, whose block and neighbours are given one by one
+abbrev pub spec : ℕ → ℕ → ℕ → ℕ → Bool → Bool → ℕ → ℕ → ℕ → ℕ → ℕ → IntraRefSpec
+spec x y b d haveAbove haveLeft topRight bottomLeft availableAbove availableLeft base = record {
+  x = x;
+  y = y;
+  b = b;
+  d = d;
+  «have_above» = haveAbove;
+  «have_left» = haveLeft;
+  «top_right» = topRight;
+  «bottom_left» = bottomLeft;
+  «available_above» = availableAbove;
+  «available_left» = availableLeft;
+  base = base;
+}
+
+abbrev pub lists : List ℤ → List ℤ → List ℤ → Lists
+lists above left corner = record { above = above; left = left; corner = corner }
+
+abbrev pub BuiltC : List Float → ℕ → ℕ → IntraRefSpec → Lists → Lists → ℕ → Type 0
+BuiltC plane W H s before after r =
+    Promise (answerNumber (answerFor plane W H s before)) (lent (answerFor plane W H s before) (refsOf plane W s before) before) r after

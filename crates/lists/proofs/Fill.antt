@@ -96,7 +96,7 @@ module _ {A : Type 0} where
   rest-at s xs i d h = getD-take (length xs - s) (drop s xs) i d (omega arith) ∙ getD-drop s xs i d
 
   -- what stands where
-  tab-at : (n : ℕ) (f : ℕ → A) (i : ℕ) (d : A) → i < n → getD (tab n f) i d ≡ f i
+  pub tab-at : (n : ℕ) (f : ℕ → A) (i : ℕ) (d : A) → i < n → getD (tab n f) i d ≡ f i
   unfolding tab
   tab-at zero f i d h = absurd (omega arith)
   tab-at (suc n) f i d h =

@@ -1,4 +1,4 @@
--- `paeth_row` meets its contract. The invariant: the first c samples are written. Assumes nothing.
+-- `long_row` meets its contract. The invariant: the first c samples are written. Assumes nothing.
 use Prim.Native.Nat.{ℕ, _≤_, _-_}
 use native.Mathlib.Omega.{arith}
 use mathlib.Core.Path.{_≡_, refl, sym, _∙_, ap₂}
@@ -15,8 +15,8 @@ use Rattle.zint.proofs.Bound.{back-abs}
 use Rattle.zint.proofs.Range.{inside-abs}
 use Rattle.lists.proofs.Fill.{filled-none, filled-more, filled-all}
 use Rattle.paeth.specs.Paeth.{paeth}
-use Rattle.paeth.proofs.block.paeth_row.Statement.{statement}
-use Rattle.paeth.proofs.block.paeth_row.Tie as tie
+use Rattle.paeth.proofs.row.long_row.Statement.{statement}
+use Rattle.paeth.proofs.row.long_row.Tie as tie
 
 -- the row's samples
 abbrev row-of : List ℤ → ℤ → ℤ → ℕ → Float
@@ -82,8 +82,8 @@ returns c =
     ∙ filled-all (c .before .loop .c) _ _ (omega arith)
     ∙ ap₂ (λ x y. tab (length (s .args .row .now)) (row-of (s .args .above .now) x y)) (toZ-ofZ (s .fits .l)) (toZ-ofZ (s .fits .corner))
 
-pub paeth-row-spec : {M : Type 1} → statement M
-paeth-row-spec =
+pub long-row-spec : {M : Type 1} → statement M
+long-row-spec =
     tie.close
     (tie.spec
     Inv-loop

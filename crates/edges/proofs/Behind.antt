@@ -1,0 +1,66 @@
+-- What stands behind an entry, by which neighbours are there, and a neighbour's samples as a run. Assumes nothing.
+use mathlib.Core.Path.{_≡_, ap}
+use mathlib.Core.Bool.{true, false}
+use mathlib.Core.List.{List}
+use Prim.Native.Nat.{ℕ, _+_, _-_, _*_}
+use native.Mathlib.Nat.{add-mul}
+use native.Mathlib.Omega.{arith}
+use lib.IntN.{pos, _+ℤ_, _-ℤ_}
+use lib.Ieee.{Float, nan}
+use lib.ListN.{getD}
+use Rattle.line.specs.Along.{along}
+use Rattle.line.specs.Run.{runAt}
+use Rattle.edges.specs.declared.spec.IntraRefSpec.{IntraRefSpec}
+use Rattle.edges.specs.Behind.{place, number, aboveBehind, leftBehind, cornerBehind}
+use Rattle.edges.specs.Rules.{sampleAt}
+
+-- from the place at row r and column c, which stands at `start` in the plane's list
+module _ (W : ℕ) (plane : List Float) (start r c : ℕ) (e : start ≡ r * W + c) where
+  pub along-row : (k : ℕ) → runAt plane start 1 k ≡ sampleAt W plane r (c + k)
+  along-row k = ap (λ i. getD plane i nan) (omega arith)
+
+  pub down-column : (k : ℕ) → runAt plane start W k ≡ sampleAt W plane (r + k) c
+  down-column k = ap (λ i. getD plane i nan) (omega (arith, add-mul r k W))
+
+module _ (s : IntraRefSpec) where
+  pub above-there : s .«have_above» ≡ true → (c : ℕ)
+      → aboveBehind s c ≡ place (s .y - 1) (s .x + along (s .b) (s .«available_above») (s .«top_right») c)
+  unfolding aboveBehind
+  above-there a c = rw a
+
+  pub above-by-left : s .«have_above» ≡ false → s .«have_left» ≡ true → (c : ℕ) → aboveBehind s c ≡ place (s .y) (s .x - 1)
+  unfolding aboveBehind
+  above-by-left a l c = rw (a, l)
+
+  pub above-by-base : s .«have_above» ≡ false → s .«have_left» ≡ false → (c : ℕ) → aboveBehind s c ≡ number (pos (s .base) -ℤ pos 1)
+  unfolding aboveBehind
+  above-by-base a l c = rw (a, l)
+
+  pub left-there : s .«have_left» ≡ true → (c : ℕ)
+      → leftBehind s c ≡ place (s .y + along (s .b) (s .«available_left») (s .«bottom_left») c) (s .x - 1)
+  unfolding leftBehind
+  left-there l c = rw l
+
+  pub left-by-above : s .«have_left» ≡ false → s .«have_above» ≡ true → (c : ℕ) → leftBehind s c ≡ place (s .y - 1) (s .x)
+  unfolding leftBehind
+  left-by-above l a c = rw (l, a)
+
+  pub left-by-base : s .«have_left» ≡ false → s .«have_above» ≡ false → (c : ℕ) → leftBehind s c ≡ number (pos (s .base) +ℤ pos 1)
+  unfolding leftBehind
+  left-by-base l a c = rw (l, a)
+
+  pub corner-by-both : s .«have_above» ≡ true → s .«have_left» ≡ true → cornerBehind s ≡ place (s .y - 1) (s .x - 1)
+  unfolding cornerBehind
+  corner-by-both a l = rw (a, l)
+
+  pub corner-by-above : s .«have_above» ≡ true → s .«have_left» ≡ false → cornerBehind s ≡ place (s .y - 1) (s .x)
+  unfolding cornerBehind
+  corner-by-above a l = rw (a, l)
+
+  pub corner-by-left : s .«have_above» ≡ false → s .«have_left» ≡ true → cornerBehind s ≡ place (s .y) (s .x - 1)
+  unfolding cornerBehind
+  corner-by-left a l = rw (a, l)
+
+  pub corner-by-base : s .«have_above» ≡ false → s .«have_left» ≡ false → cornerBehind s ≡ number (pos (s .base))
+  unfolding cornerBehind
+  corner-by-base a l = rw (a, l)

@@ -1,0 +1,39 @@
+// From samples to edges (document 01, section of that name): `build_refs` takes any input, tests 20, 1, 2, 4, 5, 6, 9, 8 in that order, and writes
+// both edges and the corner.
+pub mod fill;
+pub mod place;
+pub mod reads;
+pub mod rules;
+pub mod spec;
+
+use crate::spec::IntraRefSpec;
+use crate::spec::Lengths;
+use numbers::answer::Answer;
+ghost use Rattle.edges.specs.Refs.{Built};
+
+// Done, with 128 entries of above and left and one of corner written, or a refusal, with nothing written.
+pub fn build_refs(
+    plane: &[f32],
+    width: usize,
+    height: usize,
+    s: IntraRefSpec,
+    above: &mut [i32],
+    left: &mut [i32],
+    corner: &mut [i32],
+) -> Answer
+    ensures { λ r. ⌜ Built (now (plane .entry)) width height s (record { above = now (above .entry); left = now (left .entry); corner = now (corner .entry) }) (record { above = now (above .exit); left = now (left .exit); corner = now (corner .exit) }) r ⌝ }
+{
+    let n = Lengths {
+        above: above.len(),
+        left: left.len(),
+        corner: corner.len(),
+    };
+    let answer = rules::refused(plane, width, height, s, n);
+    if !answer.is_done() {
+        return answer;
+    }
+    fill::fill_above(plane, width, s, above);
+    fill::fill_left(plane, width, s, left);
+    corner[0] = fill::corner_of(plane, width, s);
+    answer
+}

@@ -1,0 +1,24 @@
+-- `latch_smooth` meets its contract: the call's promise, with its answer's number. Assumes nothing.
+use borrow.Author.Needs.{needs}
+use mir.Facts.{toZ-ofZ}
+use Rattle.ladder.proofs.Promise.{numbered}
+use Rattle.latch.proofs.latch_smooth.Statement.{statement}
+use Rattle.latch.proofs.latch_smooth.Tie as tie
+
+smooth-requires : tie.Need-smooth-requires
+smooth-requires c κs = search needs
+
+number-requires : tie.Need-number-requires
+number-requires c κs = search needs
+
+same-length : tie.Need-same-length
+same-length c = search needs
+
+returns : tie.Need-returns
+returns c =
+    let p = c .before .before .before in
+    let s = p .before .before .before in
+    numbered (simp (toZ-ofZ, s .fits .corner) at (p .smooth .ensures)) (c .number .ensures)
+
+pub latch-smooth-spec : {M : Type 1} → statement M
+latch-smooth-spec = tie.close (tie.spec smooth-requires number-requires same-length returns)

@@ -1,0 +1,2 @@
+-- The claim over the numbers on paper.
+pub mod Paper

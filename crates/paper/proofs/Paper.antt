@@ -1,0 +1,15 @@
+-- The definitions give the paper's numbers: one claim over the whole list. Assumes nothing.
+use mathlib.Core.Path.{_≡_, refl}
+use lib.Count.{trailingZeros}
+use lib.Ieee.{ofBits, add, toUnsigned}
+use Rattle.lists.specs.Fill.{tab}
+use Rattle.samples.specs.Sample.{reading}
+use Rattle.line.specs.Along.{along}
+use Rattle.edges.specs.Behind.{aboveBehind, leftBehind, cornerBehind}
+use Rattle.paeth.specs.Paeth.{paeth}
+use Rattle.smooth.specs.Smooth.{log2, scale, weight, blend}
+use Rattle.paper.specs.Paper.{given, paper}
+
+pub as-on-paper : given ≡ paper
+unfolding given paper paeth blend log2 scale weight trailingZeros tab reading ofBits add toUnsigned aboveBehind leftBehind cornerBehind along
+as-on-paper = refl

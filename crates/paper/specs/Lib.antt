@@ -1,0 +1,2 @@
+-- Numbers on paper.
+pub mod Paper

@@ -1,0 +1,60 @@
+-- "Numbers on paper" of document 01, cases 1 to 8: what the definitions give, and what the paper has, case by case in the same order.
+use mathlib.Core.Bool.{false}
+use mathlib.Core.List.{List, [], _∷_}
+use Prim.Native.Nat.{ℕ}
+use lib.IntN.{ℤ, pos}
+use lib.Ieee.{Float, binary32, ofBits}
+use Rattle.lists.specs.Fill.{tab}
+use Rattle.samples.specs.Sample.{reading}
+use Rattle.edges.specs.Behind.{aboveBehind, leftBehind, cornerBehind}
+use Rattle.edges.specs.Refs.{valueOf}
+use Rattle.edges.specs.declared.spec.IntraRefSpec.{IntraRefSpec}
+use Rattle.paeth.specs.Paeth.{paeth}
+use Rattle.smooth.specs.Smooth.{smoothVAt}
+
+-- smooth_v at B 4, where all entries above are t and all at the left e: row r of the first column
+abbrev smoothV4 : ℕ → ℕ → ℕ → ℤ
+smoothV4 t e r = smoothVAt 4 (tab 8 (λ i. pos t)) (tab 8 (λ i. pos e)) (pos 0) r 0
+
+-- a block with no neighbours
+abbrev alone : ℕ → IntraRefSpec
+alone base = record {
+  x = 0;
+  y = 0;
+  b = 4;
+  d = 8;
+  «have_above» = false;
+  «have_left» = false;
+  «top_right» = 0;
+  «bottom_left» = 0;
+  «available_above» = 0;
+  «available_left» = 0;
+  base = base;
+}
+
+unfoldable pub given : List (List ℤ)
+given =
+    -- 1 to 3: Paeth of l, t, k
+    (paeth (pos 10) (pos 25) (pos 20) ∷ []) ∷
+    (paeth (pos 25) (pos 10) (pos 20) ∷ []) ∷
+    (paeth (pos 10) (pos 20) (pos 15) ∷ []) ∷
+    -- 4: smooth_v, B 4, above 100, left[4] 20: a column
+    (smoothV4 100 20 0 ∷ smoothV4 100 20 1 ∷ smoothV4 100 20 2 ∷ smoothV4 100 20 3 ∷ []) ∷
+    -- 5: above 20, left[4] 100: the first row
+    (smoothV4 20 100 0 ∷ []) ∷
+    -- 6 and 7: f32 bits 3EFFFFFF, and 127.5
+    (pos (reading (ofBits binary32 0x3eff_ffff)) ∷ []) ∷
+    (pos (reading (ofBits binary32 0x42ff_0000)) ∷ []) ∷
+    -- 8: no neighbours, base 128: above, left, corner
+    (valueOf 4 [] (aboveBehind (alone 128) 0) ∷ valueOf 4 [] (leftBehind (alone 128) 0) ∷ valueOf 4 [] (cornerBehind (alone 128)) ∷ []) ∷ []
+
+unfoldable pub paper : List (List ℤ)
+paper =
+    (pos 10 ∷ []) ∷
+    (pos 10 ∷ []) ∷
+    (pos 15 ∷ []) ∷
+    (pos 90 ∷ pos 65 ∷ pos 42 ∷ pos 20 ∷ []) ∷
+    (pos 30 ∷ []) ∷
+    (pos 1 ∷ []) ∷
+    (pos 128 ∷ []) ∷
+    (pos 127 ∷ pos 129 ∷ pos 128 ∷ []) ∷ []

@@ -1,0 +1,60 @@
+-- The predictors in natural numbers, with B and M open: each sample is what the rows work out, and in 0..M where the edges are. Assumes nothing.
+use mathlib.Core.Path.{_≡_, sym, _∙_}
+use mathlib.Core.Bool.{true}
+use mathlib.Core.List.{List}
+use Prim.Native.Nat.{ℕ, _-_, _*_, _^_, _≤_, _<_}
+use native.Mathlib.Omega.{arith}
+use lib.IntN.{ℤ, pos, natAbs}
+use Rattle.numbers.specs.Size.{isSize}
+use Rattle.zint.specs.Range.{inside, Edge}
+use Rattle.zint.proofs.Range.{inside-abs, inside-pos, pos-inside}
+use Rattle.smooth.specs.Smooth.{log2, scale, weight, blend, smoothed, entry, smoothVAt, smoothHAt, smoothAt}
+use Rattle.smooth.specs.Parts.{part, weighed, mean}
+use Rattle.smooth.proofs.Natural.{blend-is, weighed-most}
+use Rattle.smooth.proofs.Sizes.{sized, size-some}
+use Rattle.smooth.proofs.Table.{weight-most}
+
+module _ (B : ℕ) (size : isSize B ≡ true) (M : ℕ) (e t : ℤ) (y : ℕ) (he : inside (pos M) e ≡ true) (ht : inside (pos M) t ≡ true) where
+  abbrev v : ℕ
+  v = weight (scale B) y
+
+  abbrev w : ℕ
+  w = B - 1 - y
+
+  pub smoothed-is : smoothed B e t y ≡ pos (weighed B (natAbs e) (natAbs t) w v)
+  smoothed-is =
+      let p = sized B size .power in
+      (λ j. smoothed B (inside-pos M e he j) (inside-pos M t ht j) y)
+      ∙ (λ j. blend 6 (blend-is (log2 B) (natAbs e) (natAbs t) w (omega (arith, p)) j) (pos (natAbs t)) (pos v))
+      ∙ blend-is 6 (part (2 ^ log2 B) (natAbs e) (natAbs t) w) (natAbs t) v (omega (arith, weight-most (scale B) y))
+      ∙ (λ j. pos (weighed (sym p j) (natAbs e) (natAbs t) w v))
+
+  abbrev natural : ℕ
+  natural = weighed B (natAbs e) (natAbs t) w v
+
+  natural-most : natural ≤ M
+  natural-most =
+      weighed-most B M (natAbs e) (natAbs t) w v (size-some B size) (inside-abs M e he) (inside-abs M t ht) (omega arith)
+      (omega (arith, weight-most (scale B) y))
+
+  pub smoothed-inside : inside (pos M) (smoothed B e t y) ≡ true
+  smoothed-inside = rw smoothed-is (pos-inside M natural natural-most)
+
+  -- as the rows have it, whose end and weight are known by equations
+  pub place-is : {end weight-y : ℕ} → end ≡ natAbs e → weight-y ≡ v → pos (weighed B end (natAbs t) w weight-y) ≡ smoothed B e t y
+  place-is ee ev = (λ j. pos (weighed B (ee j) (natAbs t) w (ev j))) ∙ sym smoothed-is
+
+-- ---- the three predictors
+module _ (B M : ℕ) (above left : List ℤ) (k : ℤ) (r c : ℕ) (size : isSize B ≡ true) (ha : Edge M (2 * B) above) (hl : Edge M (2 * B) left) (hr : r < B) (hc : c < B) where
+  pub smoothV-inside : inside (pos M) (smoothVAt B above left k r c) ≡ true
+  smoothV-inside = smoothed-inside B size M (entry left B) (entry above c) r (hl B (omega arith)) (ha c (omega arith))
+
+  pub smoothH-inside : inside (pos M) (smoothHAt B above left k r c) ≡ true
+  smoothH-inside = smoothed-inside B size M (entry above B) (entry left r) c (ha B (omega arith)) (hl r (omega arith))
+
+  pub smooth-inside : inside (pos M) (smoothAt B above left k r c) ≡ true
+  smooth-inside =
+      let down = smoothVAt B above left k r c in
+      let across = smoothHAt B above left k r c in
+      rw (inside-pos M down smoothV-inside, inside-pos M across smoothH-inside)
+      (pos-inside M (mean (natAbs down) (natAbs across)) (omega (arith, inside-abs M down smoothV-inside, inside-abs M across smoothH-inside)))

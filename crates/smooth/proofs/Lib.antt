@@ -1,0 +1,8 @@
+-- Laws of the smooth predictors.
+pub mod Natural
+pub mod Sizes
+pub mod Steps
+pub mod Running
+pub mod Table
+pub mod Laws
+pub mod Ready
