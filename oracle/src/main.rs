@@ -1,4 +1,4 @@
-// main.rs: holds the proved library against the original Rust. One argument: the scale; 1 is the usual run.
+// main.rs: holds the proved library against the original Rust. Two arguments: the scale, of which 1 is the usual run, and the project's root.
 mod calls;
 mod draw;
 mod edges;
@@ -10,6 +10,7 @@ mod predictors;
 mod random;
 mod refusals;
 mod spec;
+mod still;
 mod tally;
 mod util;
 
@@ -24,5 +25,6 @@ fn main() {
     println!("oracle: seed {SEED}, scale {scale}");
     let samples = predictors::compare(SEED, scale);
     let sets = edges::compare(SEED, scale);
+    still::compare(&std::env::args().nth(2).unwrap_or_default());
     println!("oracle: {samples} predicted samples, {sets} edge sets, 0 differences");
 }

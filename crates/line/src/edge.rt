@@ -1,6 +1,7 @@
 // An edge of a neighbour that is there, along a line of samples from `start` on: `near` of them, `more` from entry bs on, and repeats in between and
 // after them. An edge of one that is missing is one number.
 use crate::run;
+use numbers::size::Size;
 ghost use mathlib.Core.Path.{_≡_};
 ghost use mathlib.Core.Bool.{true};
 ghost use Prim.Native.Nat.{ℕ, _*_, _≤_, _<_, min};
@@ -58,7 +59,7 @@ pub fn read_edge(
     let near = least(bs, available);
     let end = bs + least(top, bs);
     let all = 2 * bs;
-    let cap = 128;
+    let cap = Size::REF_CAP;
     run::read_and_repeat(plane, start, stride, 0, near, bs, edge);
     run::read_and_repeat(plane, start + bs * stride, stride, bs, end, all, edge);
     run::repeat(&mut edge[all..cap], 0);
@@ -71,7 +72,7 @@ pub fn flat_edge(v: i32, bs: usize, edge: &mut [i32])
 {
     let zero = 0;
     let end = 2 * bs;
-    let cap = 128;
+    let cap = Size::REF_CAP;
     run::repeat(&mut edge[zero..end], v);
     run::repeat(&mut edge[end..cap], 0);
 }
