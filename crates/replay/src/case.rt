@@ -1,7 +1,6 @@
 // A predictor's case of the list: the call is made on the case's inputs, and what it writes is held against what the Rust gave.
 use crate::room;
 use numbers::answer::Answer;
-ghost use Prim.Native.Nat.{_<_};
 
 // Whether two lists begin with the same n samples.
 fn same_samples(a: &[f32], b: &[f32], n: usize) -> bool {
@@ -20,12 +19,6 @@ fn same_samples(a: &[f32], b: &[f32], n: usize) -> bool {
         }
     }
     true
-}
-
-fn square(n: usize) -> usize
-    requires { ⌜ n < 128 ⌝ }
-{
-    n * n
 }
 
 // The call that a letter names.
@@ -63,7 +56,7 @@ fn prediction_agrees(
     let start = 0;
     let bs = (b.value % 128) as usize;
     let n = 2 * bs;
-    let area = square(bs);
+    let area = room::area(bs, bs);
     if above.len() < n {
         return false;
     }

@@ -1,7 +1,6 @@
 // A case of `build_refs`: its edges and its corner are held against what the Rust gave.
 use crate::room;
 use edges::spec::IntraRefSpec;
-ghost use Prim.Native.Nat.{_<_};
 
 // Whether two lists begin with the same n entries.
 fn same_entries(a: &[i32], b: &[i32], n: usize) -> bool {
@@ -56,12 +55,6 @@ fn spec_at(s: &[u8], at: usize) -> IntraRefSpec {
     }
 }
 
-fn area(width: usize, height: usize) -> usize
-    requires { ⌜ (width < 4097) × (height < 4097) ⌝ }
-{
-    width * height
-}
-
 // Whether the edges and the corner are those that stand in the list at a place.
 fn refs_are(s: &[u8], at: usize, above: &[i32], left: &[i32], corner: &[i32]) -> bool {
     let mut due = room::entries();
@@ -80,7 +73,7 @@ fn refs_are(s: &[u8], at: usize, above: &[i32], left: &[i32], corner: &[i32]) ->
 fn plane_agrees(s: &[u8], at: usize, plane: &mut [f32]) -> bool {
     let width = (word(s, at) % 4097) as usize;
     let height = (word(s, past(s, at, 1)) % 4097) as usize;
-    let n = area(width, height);
+    let n = room::area(width, height);
     let start = 0;
     if plane.len() < n {
         return false;

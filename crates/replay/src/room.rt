@@ -1,5 +1,6 @@
 // Room to work in: an edge, a block, a plane.
 ghost use mathlib.Core.Path.{_≡_};
+ghost use Prim.Native.Nat.{_<_};
 ghost use lib.ListN.{length};
 
 pub fn entries() -> [i32; 128]
@@ -18,4 +19,11 @@ pub fn plane() -> [f32; 8192]
     ensures { λ r. ⌜ 8192 ≡ length r ⌝ }
 {
     [0.0; 8192]
+}
+
+// How many samples a plane or a block has.
+pub fn area(width: usize, height: usize) -> usize
+    requires { ⌜ (width < 4097) × (height < 4097) ⌝ }
+{
+    width * height
 }

@@ -2,8 +2,8 @@
 use native.Mathlib.Nat.{mul-le-mul, le-of-lt}
 use native.Mathlib.Omega.{arith}
 use borrow.Author.Needs.{needs}
-use Rattle.replay.proofs.refs.area.Statement.{statement}
-use Rattle.replay.proofs.refs.area.Tie as tie
+use Rattle.replay.proofs.room.area.Statement.{statement}
+use Rattle.replay.proofs.room.area.Tie as tie
 
 mul-result : tie.Need-mul-result
 mul-result c = omega (arith, mul-le-mul (le-of-lt (c .pre .0)) (le-of-lt (c .pre .1)))
