@@ -1,5 +1,6 @@
 // One sample. The distances of b = left + top - corner from left and from top are those of top and of left from corner, and so need no b.
 ghost use mathlib.Core.Path.{_≡_};
+ghost use mathlib.Core.Bool.{cond};
 ghost use Prim.Native.Nat.{_+_, _^_, _≤_, _<_};
 ghost use lib.IntN.{pos, natAbs, negℤ};
 ghost use Rattle.lists.specs.Block.{sample};
@@ -13,6 +14,13 @@ fn nearness(a: i32, b: i32) -> i32
     if a > b { b - a } else { a - b }
 }
 
+// One of two, without a branch.
+fn either(first: bool, a: i32, b: i32) -> i32
+    ensures { λ r. ⌜ r ≡ cond first a b ⌝ }
+{
+    if first { a } else { b }
+}
+
 // The nearest of left, top and corner to left + top - corner.
 pub fn paeth_single(left: i32, top: i32, corner: i32) -> i32
     requires { ⌜ (natAbs left ≤ 4095) × (natAbs top ≤ 4095) × (natAbs corner ≤ 4095) ⌝ }
@@ -21,13 +29,9 @@ pub fn paeth_single(left: i32, top: i32, corner: i32) -> i32
     let to_left = nearness(top, corner);
     let to_top = nearness(left, corner);
     let to_corner = nearness(left + top - corner, corner);
-    if to_left >= to_top && to_left >= to_corner {
-        left
-    } else if to_top >= to_corner {
-        top
-    } else {
-        corner
-    }
+    let other = either(to_top >= to_corner, top, corner);
+    let nearest = either(to_left >= to_corner, left, other);
+    either(to_left >= to_top, nearest, other)
 }
 
 // The same as a sample.

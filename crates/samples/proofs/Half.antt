@@ -115,3 +115,23 @@ sum-most (fin false n e) M k z t =
     let l = at-most n e (ofInt binary32 (pos M)) M (top-value M (k .0)) t in
     subst (λ (x : Float). T (le x (top M))) (sym (add-pos n e))
     (rounded M k (n * up e * 2 + 1 * down e) (down e * 2) (omega (arith, down-pos e)) (omega arith))
+
+-- ---- and at least 0.5
+half-rounded : round binary32 false 1 2 ≡ half
+unfolding round
+half-rounded = refl
+
+from-half : (n d : ℕ) → 0 < d → 1 * d ≤ n * 2 → T (le half (round binary32 false n d))
+from-half n d D h = subst (λ (y : Float). T (le y (round binary32 false n d))) half-rounded (round-mono binary32 1 2 n d (lit< tt) D h)
+
+pub sum-least : (v : Float) (M : ℕ) → Top M → T (le S.zero v) → T (le v (ofInt binary32 (pos M))) → T (le half (add binary32 v half))
+sum-least nan M k z t = absurd (no-nan z)
+sum-least (inf true) M k z t = absurd (no-minus z)
+sum-least (inf false) M k z t = absurd (no-inf (ofInt binary32 (pos M)) M (top-value M (k .0)) t)
+sum-least (fin true n e) M k z t =
+    let s = no-size n e z in
+    subst (λ (x : Float). T (le half x)) (sym (add-neg n e s))
+    (from-half (1 * down e - n * up e * 2) (down e * 2) (omega (arith, down-pos e)) (omega (arith, s)))
+sum-least (fin false n e) M k z t =
+    subst (λ (x : Float). T (le half x)) (sym (add-pos n e))
+    (from-half (n * up e * 2 + 1 * down e) (down e * 2) (omega (arith, down-pos e)) (omega arith))

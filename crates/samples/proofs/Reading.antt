@@ -1,4 +1,4 @@
--- What a sample's reading is known to be: the sum is below 2 ^ 13, and the reading of a sample in 0..M is in 0..M. Assumes nothing.
+-- What a sample's reading is known to be: the sum is at least 0.5 and below 2 ^ 13, and the reading of a sample in 0..M is in 0..M. Assumes nothing.
 use mathlib.Core.Path.{_≡_, sym, subst}
 use mathlib.Core.Bool.{Bool, true, false, _&&_}
 use Prim.Native.Nat.{ℕ, _+_, _*_, _/_, _≤_, _<_, min}
@@ -12,7 +12,7 @@ use Rattle.numbers.specs.Depth.{isDepth, most}
 use Rattle.zint.proofs.Range.{and-both}
 use Rattle.samples.specs.Sample.{zero, half, above, isSample, reading, Readable}
 use Rattle.samples.proofs.Within.{yes}
-use Rattle.samples.proofs.Half.{at-most-top, top, depth-top, sum-most}
+use Rattle.samples.proofs.Half.{at-most-top, top, depth-top, sum-most, sum-least}
 
 under : (M : ℕ) → M ≤ 4095 → (a d : ℕ) → a * 2 ≤ (2 * M + 1) * d → 0 < d → a * 1 < 8192 * d
 under M h a d k p = omega (arith, mul-le-mul-right {m = 2 * M + 1} {n = 8191} d (omega arith))
@@ -39,14 +39,22 @@ cut M (fin true m e) t = omega arith
 cut M (fin false m e) t = omega (arith, part M (m * up e) (down e) (at-most-top M m e t) (down-pos e))
 
 -- the sum of a sample of some depth
-sum-of : (D : ℕ) (v : Float) → isDepth D ≡ true → isSample (pos (most D)) v ≡ true → T (le (add binary32 v half) (top (most D)))
-unfolding isSample
-sum-of D v d e =
-    let p = and-both (le zero v) (le v (ofInt binary32 (pos (most D)))) e in
-    sum-most v (most D) (depth-top D d) (yes (p .0)) (yes (p .1))
+module _ (D : ℕ) (v : Float) (d : isDepth D ≡ true) (e : isSample (pos (most D)) v ≡ true) where
+  tests : (le zero v ≡ true) × (le v (ofInt binary32 (pos (most D))) ≡ true)
+  unfolding isSample
+  tests = and-both (le zero v) (le v (ofInt binary32 (pos (most D)))) e
 
-pub sum-below : (v : Float) → Readable v → T (lt (add binary32 v half) above)
-sum-below v r = below (most (r .depth)) (depth-top (r .depth) (r .is) .0) (add binary32 v half) (sum-of (r .depth) v (r .is) (r .in-range))
+  sum-of : T (le (add binary32 v half) (top (most D)))
+  sum-of = sum-most v (most D) (depth-top D d) (yes (tests .0)) (yes (tests .1))
+
+  sum-from : T (le half (add binary32 v half))
+  sum-from = sum-least v (most D) (depth-top D d) (yes (tests .0)) (yes (tests .1))
+
+pub sum-within : (v : Float) → Readable v → T (le half (add binary32 v half)) × T (lt (add binary32 v half) above)
+sum-within v r = (
+  sum-from (r .depth) v (r .is) (r .in-range),
+  below (most (r .depth)) (depth-top (r .depth) (r .is) .0) (add binary32 v half) (sum-of (r .depth) v (r .is) (r .in-range)),
+)
 
 -- the reading of a sample in 0..M is in 0..M
 pub reading-most : (D : ℕ) (v : Float) → isDepth D ≡ true → isSample (pos (most D)) v ≡ true → reading v ≤ most D

@@ -3,23 +3,19 @@ ghost use mathlib.Core.Path.{_≡_};
 ghost use mathlib.Core.Bool.{true};
 ghost use lib.Dec.{T};
 ghost use lib.IntN.{pos};
-ghost use lib.Ieee.{lt, toUnsigned};
+ghost use lib.Ieee.{le, lt, toUnsigned};
 ghost use Rattle.zint.specs.Range.{inside};
-ghost use Rattle.samples.specs.Sample.{above, isSample, reading, Readable};
+ghost use Rattle.samples.specs.Sample.{half, above, isSample, reading, Readable};
 
-// x without its fraction: the exponent's field says how far the digits are shifted.
+// x without its fraction: the exponent's field says how far the digits are shifted. From 0.5 on that is by 24 places at most, so that no test is needed.
 fn whole(x: f32) -> u32
-    requires { ⌜ T (lt x above) ⌝ }
+    requires { ⌜ T (le half x) × T (lt x above) ⌝ }
     ensures { λ r. ⌜ r ≡ toUnsigned 32 x ⌝ }
 {
-    if x >= 1.0 {
-        let bits = f32::to_bits(x);
-        let exponent = bits >> 23;
-        let digits = 8388608 + bits % 8388608;
-        digits >> (150 - exponent)
-    } else {
-        0
-    }
+    let bits = f32::to_bits(x);
+    let exponent = bits >> 23;
+    let digits = 8388608 + bits % 8388608;
+    digits >> (150 - exponent)
 }
 
 // Whether v is a number in 0..m.

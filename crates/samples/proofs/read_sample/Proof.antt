@@ -1,14 +1,14 @@
--- `read_sample` meets its contract: the sum is below 2 ^ 13, and its whole part small. Assumes nothing.
+-- `read_sample` meets its contract: the sum is at least 0.5 and below 2 ^ 13, and its whole part small. Assumes nothing.
 use mathlib.Core.Path.{_≡_, refl, sym, subst, ap, _∙_}
 use Prim.Native.Nat.{_≤_}
 use native.Mathlib.Omega.{arith}
 use lib.Dec.{T}
 use lib.IntN.{pos}
-use lib.Ieee.{Float, binary32, ofBits, add, lt, toUnsigned}
+use lib.Ieee.{Float, binary32, ofBits, add, le, lt, toUnsigned}
 use mir.Syntax.{w32}
 use Rattle.zint.proofs.Bound.{back-pos}
 use Rattle.samples.specs.Sample.{half, above, reading}
-use Rattle.samples.proofs.Reading.{sum-below, reading-small}
+use Rattle.samples.proofs.Reading.{sum-within, reading-small}
 use Rattle.samples.proofs.read_sample.Statement.{statement}
 use Rattle.samples.proofs.read_sample.Tie as tie
 
@@ -28,7 +28,7 @@ module _ (c : tie.After-whole) where
 
 whole-requires : tie.Need-whole-requires
 whole-requires c κs =
-    subst (λ (h : Float). T (lt (add binary32 (c .args .v) h) above)) (sym half-is) (sum-below (c .args .v) (c .pre))
+    subst (λ (h : Float). T (le half (add binary32 (c .args .v) h)) × T (lt (add binary32 (c .args .v) h) above)) (sym half-is) (sum-within (c .args .v) (c .pre))
 
 cast-result : tie.Need-cast-result
 cast-result c = record { sfits = omega (arith, small c) }

@@ -3,11 +3,9 @@ use mathlib.Core.Path.{_≡_, sym, subst}
 use Prim.Native.Nat.{ℕ, _/_, _^_, _≤_}
 use native.Mathlib.Omega.{arith}
 use lib.Dec.{T}
-use lib.Ieee.{Float, binary32, fits, le, toBits}
-use Rattle.std.proofs.num.Truncating.{below-one}
-use Rattle.samples.proofs.Within.{one, at-least-one, under-one}
-use Rattle.samples.proofs.Digits as W
+use lib.Ieee.{binary32, fits, toBits}
 use borrow.Author.Needs.{needs}
+use Rattle.samples.proofs.Digits as W
 use Rattle.samples.proofs.whole.Statement.{statement}
 use Rattle.samples.proofs.whole.Tie as tie
 
@@ -15,14 +13,11 @@ use Rattle.samples.proofs.whole.Tie as tie
 held : (c : tie.Start) → T (fits binary32 (c .args .x))
 held c = subst T (sym (c .good .0 .1)) tt
 
-over : (c : tie.Then1) → T (le one (c .before .args .x))
-over c = at-least-one (c .before .args .x) (c .if1 .taken)
-
-field : (c : tie.Then1) → (127 ≤ toBits binary32 (c .before .args .x) / 2 ^ 23) × (toBits binary32 (c .before .args .x) / 2 ^ 23 ≤ 139)
-field c = W.field (c .before .args .x) (held (c .before)) (over c) (c .before .pre)
+field : (c : tie.Start) → (126 ≤ toBits binary32 (c .args .x) / 2 ^ 23) × (toBits binary32 (c .args .x) / 2 ^ 23 ≤ 139)
+field c = W.field (c .args .x) (held c) (c .pre .0) (c .pre .1)
 
 float-to-bits-bits : tie.Need-float-to-bits-bits
-float-to-bits-bits c = W.is-no-nan (c .before .args .x) (held (c .before)) (over c) (c .before .pre)
+float-to-bits-bits c = W.is-no-nan (c .args .x) (held c) (c .pre .0) (c .pre .1)
 
 add-digits : tie.Need-add-digits
 add-digits c = search needs
@@ -34,11 +29,7 @@ shr-result : tie.Need-shr-result
 shr-result c = omega (arith, field c)
 
 returns : tie.Need-returns
-returns c = W.cut-down (c .before .args .x) (held (c .before)) (over c) (c .before .pre)
-
-returns-2 : tie.Need-returns-2
-returns-2 c = below-one 32 (c .before .args .x) (under-one (c .before .args .x) (c .if1 .left))
+returns c = W.cut-down (c .args .x) (held c) (c .pre .0) (c .pre .1)
 
 pub whole-spec : {M : Type 1} → statement M
-whole-spec =
-    tie.close (tie.spec float-to-bits-bits add-digits sub-result shr-result returns returns-2)
+whole-spec = tie.close (tie.spec float-to-bits-bits add-digits sub-result shr-result returns)

@@ -1,8 +1,8 @@
 -- `paeth_single` meets its contract. Assumes nothing.
+use borrow.Author.Needs.{needs}
 use native.Mathlib.Omega.{arith}
+use mathlib.Core.Bool.{Bool, true, false, cond, _&&_}
 use mathlib.Core.Path.{_≡_, refl, sym, _∙_, ap}
-use mathlib.Core.Bool.{Bool, true, false, _&&_}
-use mathlib.Core.Logic.{⊎-elim}
 use lib.Dec.{leb}
 use mir.Facts.{toZ-ofZ}
 use mir.Syntax.{w32}
@@ -16,9 +16,10 @@ use Rattle.paeth.proofs.Laws.{left-dist, top-dist}
 use Rattle.paeth.proofs.value.paeth_single.Statement.{statement}
 use Rattle.paeth.proofs.value.paeth_single.Tie as tie
 
-and-false : (t : Bool) → (t && false) ≡ false
-and-false true = refl
-and-false false = refl
+-- a choice in a choice is a choice by both
+both : (s t : Bool) (x y : ℤ) → cond s (cond t x y) y ≡ cond (s && t) x y
+both true t x y = refl
+both false t x y = refl
 
 -- the sum, and b
 sum-fits : (c : tie.Start) → SFits w32 (c .args .left +ℤ c .args .top)
@@ -71,41 +72,43 @@ to-corner k =
     toZ-ofZ {z = k .nearness3 .result} (record { sfits = k .nearness3 .ok })
     ∙ simp (toZ-ofZ, c .fits .left, c .fits .top, c .fits .corner, sum-fits c, b-fits c) at (k .nearness3 .ensures)
 
+either-requires : tie.Need-either-requires
+either-requires c κs = search needs
+
+either-requires-2 : tie.Need-either-requires-2
+either-requires-2 c κs = search needs
+
+either-requires-3 : tie.Need-either-requires-3
+either-requires-3 c κs = search needs
+
+-- the nearer of top and corner
+other : (e : tie.After-either) → let c = e .before .before .before .before in
+    toZ w32 (ofZ w32 (e .either .result)) ≡ cond (leb (dist (b c) (c .args .top)) (dist (b c) (c .args .corner))) (c .args .top) (c .args .corner)
+other e =
+    let k = e .before in
+    let c = k .before .before .before in
+    toZ-ofZ {z = e .either .result} (record { sfits = e .either .ok })
+    ∙ simp (toZ-ofZ, c .fits .top, c .fits .corner, to-top (k .before), to-corner k, le-neg) at (e .either .ensures)
+
+-- the nearer of left and corner, where the other is not nearer
+nearest : (e : tie.After-either2) → let c = e .before .before .before .before .before in
+    toZ w32 (ofZ w32 (e .either2 .result))
+    ≡ cond (leb (dist (b c) (c .args .left)) (dist (b c) (c .args .corner))) (c .args .left)
+    (cond (leb (dist (b c) (c .args .top)) (dist (b c) (c .args .corner))) (c .args .top) (c .args .corner))
+nearest e =
+    let k = e .before .before in
+    let c = k .before .before .before in
+    toZ-ofZ {z = e .either2 .result} (record { sfits = e .either2 .ok })
+    ∙ simp (toZ-ofZ, c .fits .left, to-left (k .before .before), to-corner k, le-neg, other (e .before)) at (e .either2 .ensures)
+
 returns : tie.Need-returns
 unfolding paeth
-returns c =
-    let k = c .before .before in
-    let t1 = simp (to-left (k .before .before), to-top (k .before), le-neg) at (c .before .if1 .taken) in
-    let t2 = simp (to-left (k .before .before), to-corner k, le-neg) at (c .if2 .taken) in
-    simp (toZ-ofZ, k .before .before .before .fits .left, t1, t2)
-
-returns-2 : tie.Need-returns-2
-unfolding paeth
-returns-2 c =
-    let k = c .before .before in
-    let t3 = simp (to-top (k .before), to-corner k, le-neg) at (c .if3 .taken) in
-    ⊎-elim
-    (λ w.
-    let t2 = simp (to-left (k .before .before), to-corner k, le-neg) at (w .1 .left) in
-    simp (toZ-ofZ, k .before .before .before .fits .top, t2, t3, and-false))
-    (λ w.
-    let t1 = simp (to-left (k .before .before), to-top (k .before), le-neg) at (w .left) in
-    simp (toZ-ofZ, k .before .before .before .fits .top, t1, t3))
-    (c .before .if1 .came)
-
-returns-3 : tie.Need-returns-3
-unfolding paeth
-returns-3 c =
-    let k = c .before .before in
-    let t3 = simp (to-top (k .before), to-corner k, le-neg) at (c .if3 .left) in
-    ⊎-elim
-    (λ w.
-    let t2 = simp (to-left (k .before .before), to-corner k, le-neg) at (w .1 .left) in
-    simp (toZ-ofZ, k .before .before .before .fits .corner, t2, t3, and-false))
-    (λ w.
-    let t1 = simp (to-left (k .before .before), to-top (k .before), le-neg) at (w .left) in
-    simp (toZ-ofZ, k .before .before .before .fits .corner, t1, t3))
-    (c .before .if1 .came)
+returns e =
+    let k = e .before .before .before in
+    let c = k .before .before .before in
+    toZ-ofZ {z = e .either3 .result} (record { sfits = e .either3 .ok })
+    ∙ simp (toZ-ofZ, to-left (k .before .before), to-top (k .before), le-neg, other (e .before .before), nearest (e .before)) at (e .either3 .ensures)
+    ∙ both (leb (dist (b c) (c .args .left)) (dist (b c) (c .args .top))) (leb (dist (b c) (c .args .left)) (dist (b c) (c .args .corner))) _ _
 
 pub paeth-single-spec : {M : Type 1} → statement M
 paeth-single-spec =
@@ -116,6 +119,7 @@ paeth-single-spec =
     add-nearness
     sub-nearness
     nearness-requires-3
-    returns
-    returns-2
-    returns-3)
+    either-requires
+    either-requires-2
+    either-requires-3
+    returns)
