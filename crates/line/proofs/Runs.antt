@@ -13,7 +13,7 @@ use mir.Val.{Fits}
 use Rattle.line.specs.Along.{along}
 use Rattle.line.specs.Every.{every}
 use Rattle.line.specs.Run.{runAt, Run, Line}
-use Rattle.line.proofs.Every.{every-same}
+use Rattle.line.proofs.Every.{every-same, every-join}
 use Rattle.line.proofs.Along.{along-here, along-far, every-along}
 
 -- the far run's samples, from the line's start on
@@ -28,7 +28,7 @@ module _ {size start stride bs a top : ℕ} (l : Line size start stride bs a top
     small = l .small;
   }
 
-  pub run-near : (n : ℕ) → n ≤ bs → Run size start stride n
+  pub run-near : (n : ℕ) → n ≤ bs + min top bs → Run size start stride n
   run-near n h = subst (λ (at : ℕ). Run size at stride n) (omega arith) (run-from 0 n (omega arith))
 
   -- where the far run starts fits a usize
@@ -58,3 +58,11 @@ module _ {size start stride bs a top : ℕ} (l : Line size start stride bs a top
       every-along bs a top (λ i. test (runAt plane start stride i)) (l .block .0) (l .some)
       ∙ ap (λ t. every (λ i. test (runAt plane start stride i)) (min bs a) && t)
       (every-same _ _ (min top bs) (λ i h. ap test (sym (far-at plane start stride bs i))))
+
+  -- and of one, where the two meet
+  pub whole-test : bs ≤ a → (plane : List Float) (test : Float → Bool)
+      → every (λ c. test (runAt plane start stride (along bs a top c))) (2 * bs) ≡ every (λ i. test (runAt plane start stride i)) (bs + min top bs)
+  whole-test h plane test =
+      let q : min bs a ≡ bs = omega arith in
+      every-along bs a top (λ i. test (runAt plane start stride i)) (l .block .0) (l .some)
+      ∙ rw q (every-join (λ i. test (runAt plane start stride i)) bs (min top bs))

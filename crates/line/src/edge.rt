@@ -21,7 +21,7 @@ pub fn least(a: usize, b: usize) -> usize
     if a < b { a } else { b }
 }
 
-// Whether each sample behind the 2 bs entries is a number in 0..m.
+// Whether each sample behind the 2 bs entries is a number in 0..m. Two runs that meet are tested as one.
 pub fn edge_in_range(
     plane: &[f32],
     start: usize,
@@ -34,9 +34,11 @@ pub fn edge_in_range(
     requires { ⌜ Line (length (now plane)) start stride bs available top × (inside (pos 4095) m ≡ true) ⌝ }
     ensures { λ r. ⌜ r ≡ every (λ c. isSample m (runAt (now (plane .entry)) start stride (along bs available top c))) (2 * bs) ⌝ }
 {
-    let near = least(bs, available);
     let more = least(top, bs);
-    if !run::run_in_range(plane, start, stride, near, m) {
+    if available >= bs {
+        return run::run_in_range(plane, start, stride, bs + more, m);
+    }
+    if !run::run_in_range(plane, start, stride, available, m) {
         return false;
     }
     run::run_in_range(plane, start + bs * stride, stride, more, m)

@@ -1,4 +1,4 @@
--- `edge_in_range` meets its contract: what stands behind the entries is the two runs. Assumes nothing.
+-- `edge_in_range` meets its contract: what stands behind the entries is the two runs, or one where they meet. Assumes nothing.
 use Prim.Native.Nat.{ℕ, _+_, _*_, min}
 use native.Mathlib.Omega.{arith}
 use mathlib.Core.Path.{_≡_, sym, _∙_, ap}
@@ -12,15 +12,15 @@ use Rattle.samples.specs.Sample.{isSample}
 use Rattle.line.specs.Along.{along}
 use Rattle.line.specs.Every.{every}
 use Rattle.line.specs.Run.{runAt}
-use Rattle.line.proofs.Runs.{run-near, run-from, step-fits, start-fits, runs-test}
+use Rattle.line.proofs.Runs.{run-near, run-from, step-fits, start-fits, runs-test, whole-test}
 use Rattle.line.proofs.edge.edge_in_range.Statement.{statement}
 use Rattle.line.proofs.edge.edge_in_range.Tie as tie
 
 least-requires : tie.Need-least-requires
 least-requires c κs = search needs
 
-least-requires-2 : tie.Need-least-requires-2
-least-requires-2 c κs = search needs
+add-run-in-range : tie.Need-add-run-in-range
+add-run-in-range c = search needs
 
 run-in-range-requires : tie.Need-run-in-range-requires
 run-in-range-requires c κs =
@@ -46,37 +46,54 @@ module _ (s : tie.Start) where
 
 returns : tie.Need-returns
 returns c =
+    let s = c .before .before .before .before in
+    let l = c .before .before .least .ensures in
+    sym (told s _ _ (s .args .bs + min (s .args .top) (s .args .bs)) _ (c .run-in-range .ensures) (ap (λ n. s .args .bs + n) l))
+    ∙ sym (whole-test (s .pre .0) (omega arith) (s .args .plane .now) (isSample (s .args .m)))
+
+run-in-range-requires-2 : tie.Need-run-in-range-requires-2
+run-in-range-requires-2 c κs =
+    let s = c .before .before .before in
+    rw (toZ-ofZ (s .fits .m)) (run-near (s .pre .0) _ (omega arith), s .pre .1)
+
+-- the near run, which ends before bs
+near-told : (k : tie.After-run-in-range2) → run (k .before .before .before .before) (k .before .before .before .before .args .start) (min (k .before .before .before .before .args .bs) (k .before .before .before .before .args .available)) ≡ k .run-in-range2 .result
+near-told k = let s = k .before .before .before .before in told s _ _ _ _ (k .run-in-range2 .ensures) (omega arith)
+
+returns-2 : tie.Need-returns-2
+returns-2 c =
     let k = c .before in
-    let s = k .before .before .before .before in
-    behind s false (told s _ _ _ _ (k .run-in-range .ensures) (k .before .before .least .ensures) ∙ not-true (k .run-in-range .result) (c .if1 .taken))
+    behind (k .before .before .before .before) false (near-told k ∙ not-true (k .run-in-range2 .result) (c .if2 .taken))
 
 mul-run-in-range : tie.Need-mul-run-in-range
 mul-run-in-range c = step-fits (c .before .before .before .before .before .pre .0) _ (omega arith)
 
-add-run-in-range : tie.Need-add-run-in-range
-add-run-in-range c = start-fits (c .before .before .before .before .before .pre .0) _ (omega arith)
+add-run-in-range-2 : tie.Need-add-run-in-range-2
+add-run-in-range-2 c = start-fits (c .before .before .before .before .before .pre .0) _ (omega arith)
 
-run-in-range-requires-2 : tie.Need-run-in-range-requires-2
-run-in-range-requires-2 c κs =
+run-in-range-requires-3 : tie.Need-run-in-range-requires-3
+run-in-range-requires-3 c κs =
     let s = c .before .before .before .before .before in
     rw (toZ-ofZ (s .fits .m)) (run-from (s .pre .0) _ _ (omega arith), s .pre .1)
 
-returns-2 : tie.Need-returns-2
-returns-2 c =
+returns-3 : tie.Need-returns-3
+returns-3 c =
     let k = c .before .before in
     let s = k .before .before .before .before in
-    sym (told s _ _ _ _ (c .run-in-range2 .ensures) (k .before .least2 .ensures))
-    ∙ behind s true (told s _ _ _ _ (k .run-in-range .ensures) (k .before .before .least .ensures) ∙ not-false (k .run-in-range .result) (c .before .if1 .left))
+    sym (told s _ _ _ _ (c .run-in-range3 .ensures) (k .before .before .least .ensures))
+    ∙ behind s true (near-told k ∙ not-false (k .run-in-range2 .result) (c .before .if2 .left))
 
 pub edge-in-range-spec : {M : Type 1} → statement M
 edge-in-range-spec =
     tie.close
     (tie.spec
     least-requires
-    least-requires-2
+    add-run-in-range
     run-in-range-requires
     returns
-    mul-run-in-range
-    add-run-in-range
     run-in-range-requires-2
-    returns-2)
+    returns-2
+    mul-run-in-range
+    add-run-in-range-2
+    run-in-range-requires-3
+    returns-3)
