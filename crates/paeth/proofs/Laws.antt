@@ -35,3 +35,25 @@ left-dist l t k =
 pub top-dist : (l t k : ℤ) → dist (l +ℤ t -ℤ k) t ≡ dist l k
 top-dist l t k =
     let e : l +ℤ t -ℤ k -ℤ t ≡ l -ℤ k = same _ _ (omega (arith, sub (l +ℤ t -ℤ k) t, sub (l +ℤ t) k, add l t, sub l k)) in ap natAbs e
+
+-- |b - k| is |x + y| with x = t - k and y = l - k
+pub corner-dist : (l t k : ℤ) → dist (l +ℤ t -ℤ k) k ≡ dist (t -ℤ k +ℤ (l -ℤ k)) (pos 0)
+corner-dist l t k =
+    let e : l +ℤ t -ℤ k -ℤ k ≡ t -ℤ k +ℤ (l -ℤ k) -ℤ pos 0 = same _ _ (omega (arith, sub (l +ℤ t -ℤ k) k, sub (l +ℤ t) k, add l t, sub (t -ℤ k +ℤ (l -ℤ k)) (pos 0), add (t -ℤ k) (l -ℤ k), sub t k, sub l k)) in ap natAbs e
+
+-- a choice by how far l, t and k lie from k
+pub from-corner : (p q r : Bool) (l t k : ℤ) → k +ℤ cond p (cond q (l -ℤ k) (cond r (t -ℤ k) (pos 0))) (cond r (t -ℤ k) (pos 0)) ≡ cond (p && q) l (cond r t k)
+from-corner p q r l t k = go p q r
+  where
+    back : (z : ℤ) → k +ℤ (z -ℤ k) ≡ z
+    back z = same _ _ (omega (arith, add k (z -ℤ k), sub z k))
+
+    here : k +ℤ pos 0 ≡ k
+    here = same _ _ (omega (arith, add k (pos 0)))
+
+    go : (p q r : Bool) → k +ℤ cond p (cond q (l -ℤ k) (cond r (t -ℤ k) (pos 0))) (cond r (t -ℤ k) (pos 0)) ≡ cond (p && q) l (cond r t k)
+    go true true r = back l
+    go true false true = back t
+    go true false false = here
+    go false q true = back t
+    go false q false = here

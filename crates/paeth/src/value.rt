@@ -1,4 +1,4 @@
-// One sample. The distances of b = left + top - corner from left and from top are those of top and of left from corner, and so need no b.
+// One sample. With x = top - corner and y = left - corner, b = left + top - corner lies |x| from left, |y| from top and |x + y| from corner.
 ghost use mathlib.Core.Path.{_≡_};
 ghost use mathlib.Core.Bool.{cond};
 ghost use Prim.Native.Nat.{_+_, _^_, _≤_, _<_};
@@ -21,17 +21,19 @@ fn either(first: bool, a: i32, b: i32) -> i32
     if first { a } else { b }
 }
 
-// The nearest of left, top and corner to left + top - corner.
+// The nearest of left, top and corner to left + top - corner, chosen by how far it lies from corner.
 pub fn paeth_single(left: i32, top: i32, corner: i32) -> i32
     requires { ⌜ (natAbs left ≤ 4095) × (natAbs top ≤ 4095) × (natAbs corner ≤ 4095) ⌝ }
     ensures { λ r. ⌜ r ≡ paeth left top corner ⌝ }
 {
     let to_left = nearness(top, corner);
     let to_top = nearness(left, corner);
-    let to_corner = nearness(left + top - corner, corner);
-    let other = either(to_top >= to_corner, top, corner);
-    let nearest = either(to_left >= to_corner, left, other);
-    either(to_left >= to_top, nearest, other)
+    let x = top - corner;
+    let y = left - corner;
+    let to_corner = nearness(x + y, 0);
+    let other = either(to_top >= to_corner, x, 0);
+    let nearest = either(to_left >= to_corner, y, other);
+    corner + either(to_left >= to_top, nearest, other)
 }
 
 // The same as a sample.
