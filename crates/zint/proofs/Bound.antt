@@ -58,6 +58,9 @@ pub record Bound (m : ℕ) (z : ℤ) : Type 0 where
 pub b-pos : {m : ℕ} (n : ℕ) → n ≤ m → Bound m (pos n)
 b-pos n h = record { most = h }
 
+pub b-abs : {m : ℕ} {z : ℤ} → natAbs z ≤ m → Bound m z
+b-abs h = record { most = h }
+
 pub b-lit : (n : ℕ) → Bound n (pos n)
 b-lit n = b-pos n (le-refl n)
 

@@ -1,0 +1,4 @@
+-- Laws of interpolation.
+pub mod Laws
+pub mod Taps
+pub mod Flat

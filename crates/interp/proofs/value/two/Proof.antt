@@ -1,0 +1,50 @@
+-- `two` meets its contract, as `four` does. Assumes nothing.
+use borrow.Author.Needs.{needs}
+use lib.IntN.{ℤ, pos, _+ℤ_, _*ℤ_}
+use lib.Signed.{shrZ}
+use mir.Syntax.{w32}
+use mir.Val.{SFits}
+use Rattle.zint.proofs.Bound.{Bound, b-abs, b-lit, b-add, b-mul, b-shr, b-fits}
+use Rattle.interp.specs.Interp.{taps2}
+use Rattle.interp.proofs.value.two.Statement.{statement}
+use Rattle.interp.proofs.value.two.Tie as tie
+
+record Fit (g f a b : ℤ) : Type 0 where
+  m0 : SFits w32 (g *ℤ a)
+  m1 : SFits w32 (f *ℤ b)
+  s1 : SFits w32 (g *ℤ a +ℤ f *ℤ b)
+  s2 : SFits w32 (g *ℤ a +ℤ f *ℤ b +ℤ pos 16)
+  q : SFits w32 (shrZ (g *ℤ a +ℤ f *ℤ b +ℤ pos 16) 32)
+
+fit : (c : tie.Start) → Fit (c .args .g) (c .args .f) (c .args .a) (c .args .b)
+fit c =
+    let s = c .pre in
+    let m0 = b-mul (b-abs {m = 32} {z = c .args .g} (s .0)) (b-abs {m = 4095} {z = c .args .a} (s .2)) in
+    let m1 = b-mul (b-abs {m = 32} {z = c .args .f} (s .1)) (b-abs {m = 4095} {z = c .args .b} (s .3)) in
+    let s2 = b-add (b-add m0 m1) (b-lit 16) in
+    record {
+      m0 = b-fits w32 m0 tt;
+      m1 = b-fits w32 m1 tt;
+      s1 = b-fits w32 (b-add m0 m1) tt;
+      s2 = b-fits w32 s2 tt;
+      q = b-fits w32 (b-shr 32 s2) tt;
+    }
+
+mul-result : tie.Need-mul-result
+mul-result c = let f = fit c in search needs
+
+mul-result-2 : tie.Need-mul-result-2
+mul-result-2 c = let f = fit c in search needs
+
+add-result : tie.Need-add-result
+add-result c = let f = fit c in search needs
+
+add-result-2 : tie.Need-add-result-2
+add-result-2 c = let f = fit c in search needs
+
+returns : tie.Need-returns
+unfolding taps2
+returns c = let f = fit c in search needs
+
+pub two-spec : {M : Type 1} → statement M
+two-spec = tie.close (tie.spec mul-result mul-result-2 add-result add-result-2 returns)

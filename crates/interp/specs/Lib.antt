@@ -1,0 +1,3 @@
+-- Interpolation between the entries of an edge, from document 01.
+pub mod F4
+pub mod Interp

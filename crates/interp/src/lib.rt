@@ -1,0 +1,6 @@
+// Interpolation between the entries of an edge (document 01, Directions).
+pub mod between;
+pub mod chroma;
+pub mod f4;
+pub mod luma;
+pub mod value;

@@ -1,0 +1,63 @@
+// One sample: its taps, and the clip to 0..m.
+ghost use mathlib.Core.Path.{_≡_};
+ghost use mathlib.Core.Bool.{true};
+ghost use Prim.Native.Nat.{_≤_};
+ghost use lib.IntN.{pos, natAbs};
+ghost use Rattle.zint.specs.Range.{inside};
+ghost use Rattle.lists.specs.Block.{sample};
+ghost use Rattle.interp.specs.Interp.{clip, taps4, taps2, Taps};
+
+fn clipped(x: i32, m: i32) -> i32
+    ensures { λ r. ⌜ r ≡ clip m x ⌝ }
+{
+    if x < 0 {
+        0
+    } else if m < x {
+        m
+    } else {
+        x
+    }
+}
+
+fn four(f0: i32, f1: i32, f2: i32, f3: i32, a: i32, b: i32, c: i32, d: i32) -> i32
+    requires { ⌜ Taps f0 f1 f2 f3 ⌝ }
+    requires { ⌜ (natAbs a ≤ 4095) × (natAbs b ≤ 4095) × (natAbs c ≤ 4095) × (natAbs d ≤ 4095) ⌝ }
+    ensures { λ r. ⌜ r ≡ taps4 f0 f1 f2 f3 a b c d ⌝ }
+{
+    (f0 * a + f1 * b + f2 * c + f3 * d + 64) >> 7
+}
+
+fn two(g: i32, f: i32, a: i32, b: i32) -> i32
+    requires { ⌜ (natAbs g ≤ 32) × (natAbs f ≤ 32) × (natAbs a ≤ 4095) × (natAbs b ≤ 4095) ⌝ }
+    ensures { λ r. ⌜ r ≡ taps2 g f a b ⌝ }
+{
+    (g * a + f * b + 16) >> 5
+}
+
+// A sample of luma, from four entries.
+pub fn luma_sample(
+    f0: i32,
+    f1: i32,
+    f2: i32,
+    f3: i32,
+    a: i32,
+    b: i32,
+    c: i32,
+    d: i32,
+    m: i32,
+) -> f32
+    requires { ⌜ Taps f0 f1 f2 f3 × (inside (pos 4095) m ≡ true) ⌝ }
+    requires { ⌜ (natAbs a ≤ 4095) × (natAbs b ≤ 4095) × (natAbs c ≤ 4095) × (natAbs d ≤ 4095) ⌝ }
+    ensures { λ r. ⌜ r ≡ sample (clip m (taps4 f0 f1 f2 f3 a b c d)) ⌝ }
+{
+    clipped(four(f0, f1, f2, f3, a, b, c, d), m) as f32
+}
+
+// A sample of chroma, from two entries.
+pub fn chroma_sample(g: i32, f: i32, a: i32, b: i32, m: i32) -> f32
+    requires { ⌜ (natAbs g ≤ 32) × (natAbs f ≤ 32) × (natAbs a ≤ 4095) × (natAbs b ≤ 4095) ⌝ }
+    requires { ⌜ inside (pos 4095) m ≡ true ⌝ }
+    ensures { λ r. ⌜ r ≡ sample (clip m (taps2 g f a b)) ⌝ }
+{
+    clipped(two(g, f, a, b), m) as f32
+}
