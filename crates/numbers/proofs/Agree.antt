@@ -12,7 +12,7 @@ use Rattle.numbers.specs.Depth.{bitsOf, depths, depthOf, isDepth}
 use Rattle.numbers.specs.declared.depth.Depth.{Depth}
 use Rattle.numbers.specs.declared.depth.Depth.the-variants.{Eight, Ten, Twelve}
 use Rattle.numbers.specs.declared.depth.FoundDepth.the-variants as found-depth
-use Rattle.numbers.specs.Dir.{dirNumber, dirs, dirOf}
+use Rattle.numbers.specs.Dir.{dirNumber, dirs, dirOf, isDir}
 use Rattle.numbers.specs.declared.dir.Dir.{Dir}
 use Rattle.numbers.specs.declared.dir.Dir.the-variants.{Vertical, Horizontal, D45, D135, D113, D157, D203, D67}
 use Rattle.numbers.specs.declared.dir.FoundDir.the-variants as found-dir
@@ -97,3 +97,12 @@ dir-there D67 = refl
 
 pub dir-back : (n : ℕ) (e : Dir) → dirOf n ≡ found-dir.Is e → dirNumber e ≡ n
 dir-back n e h = look-back dirNumber found-dir.Is found-dir.NoDir same-dir no-dir dirs n e h
+
+-- the test, and what the code finds
+pub dir-yes : (n : ℕ) (e : Dir) → dirOf n ≡ found-dir.Is e → isDir n ≡ true
+unfolding isDir
+dir-yes n e h = look-yes dirNumber found-dir.Is found-dir.NoDir same-dir no-dir dirs n e h
+
+pub dir-no : (n : ℕ) → dirOf n ≡ found-dir.NoDir → isDir n ≡ false
+unfolding isDir
+dir-no n h = look-no dirNumber found-dir.Is found-dir.NoDir same-dir no-dir dirs n h

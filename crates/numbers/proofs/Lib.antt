@@ -2,3 +2,4 @@
 pub mod Look
 pub mod Agree
 pub mod Named
+pub mod Angle

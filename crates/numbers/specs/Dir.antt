@@ -1,7 +1,10 @@
--- "Directions 0 to 7: V 90, H 180, D45, D135, D113, D157, D203, D67"
+-- "Directions 0 to 7: V 90, H 180, D45, D135, D113, D157, D203, D67; the angle is the direction's degrees plus 3 times delta, delta -3 to 3."
+use mathlib.Core.Bool.{Bool}
 use mathlib.Core.List.{List, [], _∷_}
 use Prim.Native.Nat.{ℕ}
-use Rattle.numbers.specs.Look.{look}
+use lib.Dec.{leb}
+use lib.IntN.{ℤ, pos, _+ℤ_, _-ℤ_, _*ℤ_}
+use Rattle.numbers.specs.Look.{look, among}
 use Rattle.numbers.specs.declared.dir.Dir.{Dir}
 use Rattle.numbers.specs.declared.dir.Dir.the-variants.{Vertical, Horizontal, D45, D135, D113, D157, D203, D67}
 use Rattle.numbers.specs.declared.dir.FoundDir.{FoundDir}
@@ -25,6 +28,10 @@ dirs = Vertical ∷ Horizontal ∷ D45 ∷ D135 ∷ D113 ∷ D157 ∷ D203 ∷ D
 abbrev pub dirOf : ℕ → FoundDir
 dirOf n = look dirNumber Is NoDir dirs n
 
+-- n is one of the eight
+unfoldable pub isDir : ℕ → Bool
+isDir n = among dirNumber dirs n
+
 -- the direction's degrees
 abbrev pub degreesOf : Dir → ℕ
 degreesOf Vertical = 90
@@ -35,3 +42,14 @@ degreesOf D113 = 113
 degreesOf D157 = 157
 degreesOf D203 = 203
 degreesOf D67 = 67
+
+-- "the angle is the direction's degrees plus 3 times delta"
+unfoldable pub angleOf : Dir → ℤ → ℤ
+angleOf d delta = pos (degreesOf d) +ℤ pos 3 *ℤ delta
+
+-- a row's word "6 delta + 3": the word stands for a delta, and for which
+unfoldable pub isDelta : ℕ → Bool
+isDelta word = leb word 6
+
+unfoldable pub deltaOf : ℕ → ℤ
+deltaOf word = pos word -ℤ pos 3

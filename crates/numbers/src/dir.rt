@@ -1,7 +1,10 @@
-// "Directions 0 to 7: V 90, H 180, D45, D135, D113, D157, D203, D67" (document 01, Ranges and numbers that name things)
+// "Directions 0 to 7: V 90, H 180, D45, D135, D113, D157, D203, D67; the angle is the direction's degrees plus 3 times delta, delta -3 to
+// 3." (document 01, Ranges and numbers that name things)
 ghost use mathlib.Core.Path.{_≡_};
-ghost use lib.IntN.{pos};
-ghost use Rattle.numbers.specs.Dir.{dirOf, degreesOf};
+ghost use mathlib.Core.Bool.{true};
+ghost use Prim.Native.Nat.{_≤_};
+ghost use lib.IntN.{pos, natAbs};
+ghost use Rattle.numbers.specs.Dir.{dirOf, degreesOf, angleOf, isDelta, deltaOf};
 
 pub enum Dir {
     Vertical,
@@ -20,7 +23,7 @@ pub enum FoundDir {
 }
 
 impl Dir {
-    // "the angle is the direction's degrees plus 3 times delta, delta -3 to 3"; a row holds delta + FARTHEST.
+    // A delta is so many degrees, and is -FARTHEST to FARTHEST; a row holds delta + FARTHEST.
     pub const STEP: i32 = 3;
 
     pub const FARTHEST: i32 = 3;
@@ -56,5 +59,28 @@ impl Dir {
             Dir::D203 => 203,
             Dir::D67 => 67,
         }
+    }
+
+    // The angle of the direction with its delta.
+    pub fn turned(self, delta: i32) -> usize
+        requires { ⌜ natAbs delta ≤ 3 ⌝ }
+        ensures { λ r. ⌜ pos r ≡ angleOf self delta ⌝ }
+    {
+        (self.angle() + Dir::STEP * delta) as usize
+    }
+
+    // Whether a row's word stands for a delta.
+    pub fn is_delta(word: u16) -> bool
+        ensures { λ r. ⌜ r ≡ isDelta word ⌝ }
+    {
+        word as i32 <= 2 * Dir::FARTHEST
+    }
+
+    // The delta that a row's word stands for.
+    pub fn delta(word: u16) -> i32
+        requires { ⌜ isDelta word ≡ true ⌝ }
+        ensures { λ r. ⌜ r ≡ deltaOf word ⌝ }
+    {
+        word as i32 - Dir::FARTHEST
     }
 }
