@@ -1,6 +1,6 @@
 -- What a direct call that is not refused can count on, with B and D open. Assumes nothing.
 use mathlib.Core.Path.{_≡_}
-use mathlib.Core.Bool.{true, _&&_}
+use mathlib.Core.Bool.{Bool, true, _&&_}
 use mathlib.Core.List.{List}
 use Prim.Native.Nat.{ℕ, _*_, _≤_}
 use native.Mathlib.Omega.{arith}
@@ -30,9 +30,10 @@ long-all B a l n e =
     let q = and-both (leb (2 * B) a) (leb (2 * B) l) (p .0) in
     (leb-true _ _ (q .0), leb-true _ _ (q .1), leb-true _ _ (p .1))
 
-pub record Accepted (B D : ℕ) (above left : List ℤ) (k : ℤ) (n : ℕ) : Type 0 where
+pub record Accepted (B D : ℕ) (named : Bool) (above left : List ℤ) (k : ℤ) (n : ℕ) : Type 0 where
   pub size : isSize B ≡ true
   pub depth : isDepth D ≡ true
+  pub mode : named ≡ true
   pub above-long : 2 * B ≤ length above
   pub left-long : 2 * B ≤ length left
   pub out-long : B * B ≤ n
@@ -40,17 +41,19 @@ pub record Accepted (B D : ℕ) (above left : List ℤ) (k : ℤ) (n : ℕ) : Ty
   pub left-in : Edge (most D) (2 * B) left
   pub corner-in : inside (pos (most D)) k ≡ true
 
-pub accepted : (B D : ℕ) (above left : List ℤ) (k : ℤ) (n : ℕ) → directAnswer B D above left k n ≡ Done → Accepted B D above left k n
+pub accepted : (B D : ℕ) (named : Bool) (above left : List ℤ) (k : ℤ) (n : ℕ) → directAnswer B D named above left k n ≡ Done
+    → Accepted B D named above left k n
 unfolding directAnswer isRead
-accepted B D above left k n e =
-    let all = all-kept (directRules B D above left k n) tt e in
-    let lo = long-all B (length above) (length left) n (all .1 .1 .0) in
+accepted B D named above left k n e =
+    let all = all-kept (directRules B D named above left k n) tt e in
+    let lo = long-all B (length above) (length left) n (all .1 .1 .1 .0) in
     let M = pos (most D) in
-    let p = and-both (allInside M above (2 * B) && allInside M left (2 * B)) (inside M k) (all .1 .1 .1 .0) in
+    let p = and-both (allInside M above (2 * B) && allInside M left (2 * B)) (inside M k) (all .1 .1 .1 .1 .0) in
     let q = and-both (allInside M above (2 * B)) (allInside M left (2 * B)) (p .0) in
     record {
       size = all .0;
       depth = all .1 .0;
+      mode = all .1 .1 .0;
       above-long = lo .0;
       left-long = lo .1;
       out-long = lo .2;

@@ -36,9 +36,17 @@ fn is_read(bs: usize, m: i32, above: &[i32], left: &[i32], corner: i32) -> bool
     range::in_range(corner, m)
 }
 
-// What a direct call answers, whose output has n entries.
-pub fn direct(b: u16, d: u16, above: &[i32], left: &[i32], corner: i32, n: usize) -> Answer
-    ensures { λ r. ⌜ r ≡ directAnswer b d (now (above .entry)) (now (left .entry)) corner n ⌝ }
+// What a direct call answers, whose output has n entries. `named` says that the words of its mode name one; a call that takes no mode passes true.
+pub fn direct(
+    b: u16,
+    d: u16,
+    named: bool,
+    above: &[i32],
+    left: &[i32],
+    corner: i32,
+    n: usize,
+) -> Answer
+    ensures { λ r. ⌜ r ≡ directAnswer b d named (now (above .entry)) (now (left .entry)) corner n ⌝ }
 {
     let FoundSize::Is(_) = Size::of(b) else {
         return Answer::BadSize;
@@ -46,6 +54,9 @@ pub fn direct(b: u16, d: u16, above: &[i32], left: &[i32], corner: i32, n: usize
     let FoundDepth::Is(depth) = Depth::of(d) else {
         return Answer::BadDepth;
     };
+    if !named {
+        return Answer::BadMode;
+    }
     let bs = b as usize;
     if !is_long(bs, above.len(), left.len(), n) {
         return Answer::ShortList;

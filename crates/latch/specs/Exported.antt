@@ -1,5 +1,5 @@
 -- The promises of the repository's own calls, with the answer's number in the answer's place.
-use mathlib.Core.Bool.{Bool}
+use mathlib.Core.Bool.{Bool, true}
 use mathlib.Core.List.{List}
 use Prim.Native.Nat.{ℕ}
 use lib.IntN.{ℤ}
@@ -12,11 +12,11 @@ use Rattle.edges.specs.Refs.{Lists, answerFor, refsOf}
 use Rattle.edges.specs.declared.spec.IntraRefSpec.{IntraRefSpec}
 use Rattle.calls.specs.Direct.{Predictor, directAnswer}
 
--- a predictor's call
+-- a predictor's call that takes no mode
 abbrev pub PredictedC : Predictor → ℕ → ℕ → List ℤ → List ℤ → ℤ → List Float → List Float → ℕ → Type 0
 PredictedC at B D above left k before after r =
-    Promise (answerNumber (directAnswer B D above left k (length before)))
-    (lent (directAnswer B D above left k (length before)) (block B B (at B above left k) before) before)
+    Promise (answerNumber (directAnswer B D true above left k (length before)))
+    (lent (directAnswer B D true above left k (length before)) (block B B (at B above left k) before) before)
     r after
 
 -- `build_refs`, whose block and neighbours are given one by one

@@ -11,7 +11,7 @@ ghost use Rattle.paeth.specs.Paeth.{paethAt};
 pub fn paeth(b: u16, d: u16, above: &[i32], left: &[i32], corner: i32, out: &mut [f32]) -> Answer
     ensures { λ r. ⌜ Predicted paethAt b d (now (above .entry)) (now (left .entry)) corner (now (out .entry)) (now (out .exit)) r ⌝ }
 {
-    let answer = calls::direct::direct(b, d, above, left, corner, out.len());
+    let answer = calls::direct::direct(b, d, true, above, left, corner, out.len());
     if !answer.is_done() {
         return answer;
     }

@@ -1,7 +1,7 @@
 -- What a block function hands to its rows, with the size B open: the entry that ends an edge, log2 B, the scale and its weights; and that what the
 -- rows work out at a place is the definition's sample. Assumes nothing.
 use mathlib.Core.Path.{_≡_, refl, sym, _∙_, ap}
-use mathlib.Core.Bool.{true}
+use mathlib.Core.Bool.{Bool, true}
 use mathlib.Core.List.{List}
 use Prim.Native.Nat.{ℕ, _-_, _*_, _^_, _≤_, _<_}
 use native.Mathlib.Omega.{arith}
@@ -24,7 +24,7 @@ use Rattle.smooth.proofs.Steps.{entry-in, entry-abs, entry-most}
 use Rattle.smooth.proofs.Table.{weight-most, weight-none}
 
 -- a call that is not refused
-pub granted : {B D : ℕ} {above left : List ℤ} {k : ℤ} {n : ℕ} → Accepted B D above left k n
+pub granted : {B D : ℕ} {named : Bool} {above left : List ℤ} {k : ℤ} {n : ℕ} → Accepted B D named above left k n
     → (isSize B ≡ true) × Entries above (2 * B) × Entries left (2 * B) × (B * B ≤ n)
 granted {D = D} g =
     let up = inside-more (most D) 4095 (depth-most D (g .depth)) in (

@@ -21,7 +21,7 @@ module _ (c : tie.After-is-done) where
   abbrev s : tie.Start
   s = c .before .before .before
 
-  is : c .before .direct .result ≡ directAnswer (s .args .b) (s .args .d) (s .args .above .now) (s .args .left .now) (s .args .corner) (length (s .args .out .now))
+  is : c .before .direct .result ≡ directAnswer (s .args .b) (s .args .d) true (s .args .above .now) (s .args .left .now) (s .args .corner) (length (s .args .out .now))
   is = simp (toZ-ofZ, s .fits .corner) at (c .before .direct .ensures)
 
 -- what a call that is not refused can count on
@@ -29,8 +29,8 @@ module _ (c : tie.Else1) where
   done : isDone (c .before .before .direct .result) ≡ true
   done = sym (c .before .is-done .ensures) ∙ not-false (c .before .is-done .result) (c .if1 .left)
 
-  granted : Accepted (s (c .before) .args .b) (s (c .before) .args .d) (s (c .before) .args .above .now) (s (c .before) .args .left .now) (s (c .before) .args .corner) (length (s (c .before) .args .out .now))
-  granted = accepted _ _ _ _ _ _ (sym (is (c .before)) ∙ done-is _ done)
+  granted : Accepted (s (c .before) .args .b) (s (c .before) .args .d) true (s (c .before) .args .above .now) (s (c .before) .args .left .now) (s (c .before) .args .corner) (length (s (c .before) .args .out .now))
+  granted = accepted _ _ _ _ _ _ _ (sym (is (c .before)) ∙ done-is _ done)
 
 direct-requires : tie.Need-direct-requires
 direct-requires c κs = search needs

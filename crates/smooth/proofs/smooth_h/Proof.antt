@@ -19,7 +19,7 @@ module _ (c : tie.After-is-done) where
   abbrev s : tie.Start
   s = c .before .before .before
 
-  is : c .before .direct .result ≡ directAnswer (s .args .b) (s .args .d) (s .args .above .now) (s .args .left .now) (s .args .corner) (length (s .args .out .now))
+  is : c .before .direct .result ≡ directAnswer (s .args .b) (s .args .d) true (s .args .above .now) (s .args .left .now) (s .args .corner) (length (s .args .out .now))
   is = simp (toZ-ofZ, s .fits .corner) at (c .before .direct .ensures)
 
 done : (c : tie.Else1) → isDone (c .before .before .direct .result) ≡ true
@@ -36,7 +36,7 @@ returns c =
     refused _ _ (is (c .before)) (sym (c .before .is-done .ensures) ∙ not-true (c .before .is-done .result) (c .if1 .taken))
 
 smooth-h-into-requires : tie.Need-smooth-h-into-requires
-smooth-h-into-requires c κs = granted (accepted _ _ _ _ _ _ (sym (is (c .before .before)) ∙ done-is _ (done (c .before))))
+smooth-h-into-requires c κs = granted (accepted _ _ _ _ _ _ _ (sym (is (c .before .before)) ∙ done-is _ (done (c .before))))
 
 same-length : tie.Need-same-length
 same-length c = search needs

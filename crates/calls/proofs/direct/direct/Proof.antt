@@ -28,17 +28,20 @@ module _ (c : tie.After-known-told) where
   abbrev s : tie.Start
   s = c .before .before .before .before .before .before .before
 
-module _ (c : tie.Else1) where
+named : (c : tie.Else1) → s (c .before) .args .named ≡ true
+named c = not-false (s (c .before) .args .named) (c .if1 .left)
+
+module _ (c : tie.Else2) where
   abbrev t : tie.Start
-  t = s (c .before .before)
+  t = s (c .before .before .before)
 
   long : isLong (t .args .b) (length (t .args .above .now)) (length (t .args .left .now)) (t .args .n) ≡ true
-  long = sym (c .before .is-long .ensures) ∙ not-false (c .before .is-long .result) (c .if1 .left)
+  long = sym (c .before .is-long .ensures) ∙ not-false (c .before .is-long .result) (c .if2 .left)
 
 -- M of the depth that was found
 max-is : (c : tie.After-max) → toZ w32 (ofZ w32 (c .max .result)) ≡ pos (most (t (c .before) .args .d))
 max-is c =
-    let d = c .before .before .before .before in
+    let d = c .before .before .before .before .before in
     back w32 {z = c .max .result} (sfits-of (c .max .ok))
     ∙ c .max .ensures
     ∙ ap (λ n. pos (most n)) (depth-back _ _ (sym (d .before .before .of2 .ensures) ∙ d .depth .given .1))
@@ -76,17 +79,29 @@ returns-2 c =
       depth-no (c .before .before .before .before .before .before .args .d) (sym (c .before .before .of2 .ensures) ∙ c .enum-told3 .given .1),
     )
 
-is-long-requires : tie.Need-is-long-requires
-is-long-requires c κs = size-most _ (size (c .before .before .before .before))
-
 returns-3 : tie.Need-returns-3
 unfolding directAnswer
 returns-3 c =
-    let k = c .before .before .before in
+    let k = c .before .before in
     simp (
       size (k .before .before .before),
       depth k,
-      sym (c .before .is-long .ensures) ∙ not-true (c .before .is-long .result) (c .if1 .taken),
+      not-true (s (c .before) .args .named) (c .if1 .taken),
+    )
+
+is-long-requires : tie.Need-is-long-requires
+is-long-requires c κs = size-most _ (size (c .before .before .before .before .before))
+
+returns-4 : tie.Need-returns-4
+unfolding directAnswer
+returns-4 c =
+    let e = c .before .before in
+    let k = e .before .before in
+    simp (
+      size (k .before .before .before),
+      depth k,
+      named e,
+      sym (c .before .is-long .ensures) ∙ not-true (c .before .is-long .result) (c .if2 .taken),
     )
 
 max-requires : tie.Need-max-requires
@@ -95,30 +110,34 @@ max-requires c κs = search needs
 is-read-requires : tie.Need-is-read-requires
 is-read-requires c κs =
     let l = long-all _ _ _ _ (long (c .before)) in
-    (size-most _ (size (c .before .before .before .before .before .before .before)), l .0, l .1)
-
-returns-4 : tie.Need-returns-4
-unfolding directAnswer
-returns-4 c =
-    let f = c .before .before .before in
-    let k = f .before .before .before in
-    simp (
-      size (k .before .before .before),
-      depth k,
-      long f,
-      sym (read-is (c .before)) ∙ not-true (c .before .is-read .result) (c .if2 .taken),
-    )
+    (size-most _ (size (c .before .before .before .before .before .before .before .before)), l .0, l .1)
 
 returns-5 : tie.Need-returns-5
 unfolding directAnswer
 returns-5 c =
     let f = c .before .before .before in
-    let k = f .before .before .before in
+    let e = f .before .before in
+    let k = e .before .before in
     simp (
       size (k .before .before .before),
       depth k,
+      named e,
       long f,
-      sym (read-is (c .before)) ∙ not-false (c .before .is-read .result) (c .if2 .left),
+      sym (read-is (c .before)) ∙ not-true (c .before .is-read .result) (c .if3 .taken),
+    )
+
+returns-6 : tie.Need-returns-6
+unfolding directAnswer
+returns-6 c =
+    let f = c .before .before .before in
+    let e = f .before .before in
+    let k = e .before .before in
+    simp (
+      size (k .before .before .before),
+      depth k,
+      named e,
+      long f,
+      sym (read-is (c .before)) ∙ not-false (c .before .is-read .result) (c .if3 .left),
     )
 
 pub direct-spec : {M : Type 1} → statement M
@@ -133,9 +152,10 @@ direct-spec =
     enum-known-depth
     enum-told-3
     returns-2
-    is-long-requires
     returns-3
+    is-long-requires
+    returns-4
     max-requires
     is-read-requires
-    returns-4
-    returns-5)
+    returns-5
+    returns-6)
