@@ -73,3 +73,18 @@ module _ (M : ℤ) (p : ℕ → ℤ) (q i : ℕ) where
     where
       next : q / 64 + 1 + i ≡ (q + 64 * i) / 64 + 1
       next = omega arith
+
+-- ---- a list that starts s entries earlier holds the same samples 64 s further on
+module _ (M : ℤ) (p r : ℕ → ℤ) (q s : ℕ) (h : (k : ℕ) → q / 64 ≤ k → k < q / 64 + 4 → p k ≡ r (k + s)) where
+  there : (a b : ℕ) → q / 64 ≤ a → a < q / 64 + 4 → a + s ≡ b → p a ≡ r b
+  there a b l m e = h a l m ∙ ap r e
+
+  abbrev b : ℕ
+  b = (q + 64 * s) / 64
+
+  pub between-move : (lum : Bool) → between lum M p q ≡ between lum M r (q + 64 * s)
+  unfolding between
+  between-move true = λ j.
+      clip M (taps4 (f4 (phase-on M p q s j) 0) (f4 (phase-on M p q s j) 1) (f4 (phase-on M p q s j) 2) (f4 (phase-on M p q s j) 3) (there (q / 64) b (omega arith) (omega arith) (omega arith) j) (there (q / 64 + 1) (b + 1) (omega arith) (omega arith) (omega arith) j) (there (q / 64 + 2) (b + 2) (omega arith) (omega arith) (omega arith) j) (there (q / 64 + 3) (b + 3) (omega arith) (omega arith) (omega arith) j))
+  between-move false = λ j.
+      clip M (taps2 (pos (32 - phase-on M p q s j)) (pos (phase-on M p q s j)) (there (q / 64 + 1) (b + 1) (omega arith) (omega arith) (omega arith) j) (there (q / 64 + 1 + 1) (b + 1 + 1) (omega arith) (omega arith) (omega arith) j))

@@ -1,0 +1,148 @@
+-- `filter_edge` meets its contract: the corner, the places, the last of them. Assumes nothing.
+use borrow.Author.Needs.{needs}
+use native.Mathlib.Omega.{arith}
+use mathlib.Core.Path.{_≡_, sym, _∙_, ap}
+use mathlib.Core.Bool.{true}
+use mathlib.Core.List.{List}
+use Prim.Native.Nat.{ℕ, _+_, _-_, _≤_, min}
+use lib.ListN.{getD, length-take, length-drop}
+use lib.IntN.{ℤ, pos}
+use mir.Syntax.{w32}
+use mir.Val.{toZ, ofZ}
+use Rattle.zint.specs.Range.{inside}
+use Rattle.zint.proofs.Bound.{back-abs}
+use Rattle.zint.proofs.Range.{inside-abs}
+use Rattle.lists.proofs.Fill.{filled-none, filled-at}
+use Rattle.filter.specs.Filter.{padded, filtered}
+use Rattle.filter.specs.Padded.{place}
+use Rattle.filter.proofs.Filtered.{filtered-corner, filtered-sample}
+use Rattle.filter.proofs.Parts.{filled-next}
+use Rattle.filter.proofs.edge.filter_edge.Statement.{statement}
+use Rattle.filter.proofs.edge.filter_edge.Tie as tie
+
+module _ (s : tie.Start) where
+  abbrev e : ℕ → ℤ
+  e = place (s .args .pad .now)
+
+  corner-back : toZ w32 (ofZ w32 (e 0)) ≡ e 0
+  corner-back = back-abs w32 (e 0) (omega (arith, inside-abs 4095 (e 0) (s .pre .6 .samples 4 (omega arith))))
+
+  abbrev g : ℕ → ℤ
+  g = filtered (s .args .s) (s .args .lim) (s .args .n) e
+
+  abbrev f : ℕ → ℤ
+  f = padded 4 (s .args .n) g
+
+  f-back : (j : ℕ) → toZ w32 (ofZ w32 (f j)) ≡ f j
+  f-back j =
+      let samples : (i : ℕ) → i ≤ s .args .n → inside (pos 4095) (e i) ≡ true = λ i h. s .pre .6 .samples (i + 4) (omega arith) in
+      let p = filtered-sample 4095 (s .args .n) (s .args .s) (s .args .lim) e (s .pre .1) samples (min (s .args .n) (j - 4)) (omega arith) in
+      back-abs w32 (f j) (omega (arith, inside-abs 4095 (f j) p))
+
+add-past : tie.Need-add-past
+add-past c = search needs
+
+shared-slice-copy-out-fill-part : tie.Need-shared-slice-copy-out-fill-part
+shared-slice-copy-out-fill-part c = search needs
+
+mul-fill-part : tie.Need-mul-fill-part
+mul-fill-part c = search needs
+
+sub-fill-part : tie.Need-sub-fill-part
+sub-fill-part c = search needs
+
+part-fill-part-start : tie.Need-part-fill-part-start
+part-fill-part-start c = search needs
+
+part-fill-part-end : tie.Need-part-fill-part-end
+part-fill-part-end c = search needs
+
+fill-part-requires : tie.Need-fill-part-requires
+fill-part-requires c κs = search needs
+
+mul-filter-part : tie.Need-mul-filter-part
+mul-filter-part c = search needs
+
+sub-filter-part : tie.Need-sub-filter-part
+sub-filter-part c = search needs
+
+part-filter-part-start : tie.Need-part-filter-part-start
+part-filter-part-start c = search needs
+
+part-filter-part-end : tie.Need-part-filter-part-end
+part-filter-part-end c = search needs
+
+filter-part-requires : tie.Need-filter-part-requires
+filter-part-requires c κs =
+    let s = c .before .before .before .before .before in
+    let l = c .before .list .given .1 in
+    (s .pre .0, s .pre .1, s .pre .2, s .pre .3, simp (length-take, length-drop) (omega arith), s .pre .6)
+
+add-fill-part : tie.Need-add-fill-part
+add-fill-part c = search needs
+
+mul-fill-part-2 : tie.Need-mul-fill-part-2
+mul-fill-part-2 c = search needs
+
+slice-copy-out-fill-part : tie.Need-slice-copy-out-fill-part
+slice-copy-out-fill-part c = search needs
+
+mul-fill-part-3 : tie.Need-mul-fill-part-3
+mul-fill-part-3 c = search needs
+
+sub-fill-part-2 : tie.Need-sub-fill-part-2
+sub-fill-part-2 c = search needs
+
+part-fill-part-start-2 : tie.Need-part-fill-part-start-2
+part-fill-part-start-2 c = search needs
+
+part-fill-part-end-2 : tie.Need-part-fill-part-end-2
+part-fill-part-end-2 c = search needs
+
+fill-part-requires-2 : tie.Need-fill-part-requires-2
+fill-part-requires-2 c κs = search needs
+
+same-length : tie.Need-same-length
+same-length c = search needs
+
+returns : tie.Need-returns
+returns c =
+    let b = c .before .before .before .before .before in
+    let a = b .before .before .before in
+    let s = a .before .before .before in
+    let n = s .args .n in
+    let p = s .args .list .now in
+    let one = filled-next 0 5 (f s) _ p p _ (omega arith) (omega arith) (sym (filled-none (f s) p)) (a .fill-part .ensures)
+    (λ i h. corner-back s ∙ sym (filtered-corner (s .args .s) (s .args .lim) n (e s) (min n (0 + i - 4)) (omega arith))) in
+    let two = filled-next 5 (n + 5) (f s) _ p _ _ (omega arith) (omega arith) one (b .filter-part .ensures) (λ i h. ap (g s) (omega arith)) in
+    let there = ap (λ (l : List ℤ). getD l (n + 4) (pos 0)) two ∙ filled-at (n + 5) (f s) p (n + 4) (pos 0) (omega arith) in
+    let last = ap (λ z. toZ w32 (ofZ w32 z)) there ∙ f-back s (n + 4) in
+    filled-next (n + 5) (s .args .size) (f s) _ p _ _ (omega arith) (omega arith) two (c .before .fill-part2 .ensures)
+    (λ i h. last ∙ ap (g s) (omega arith))
+
+pub filter-edge-spec : {M : Type 1} → statement M
+filter-edge-spec =
+    tie.close
+    (tie.spec
+    add-past
+    shared-slice-copy-out-fill-part
+    mul-fill-part
+    sub-fill-part
+    part-fill-part-start
+    part-fill-part-end
+    fill-part-requires
+    mul-filter-part
+    sub-filter-part
+    part-filter-part-start
+    part-filter-part-end
+    filter-part-requires
+    add-fill-part
+    mul-fill-part-2
+    slice-copy-out-fill-part
+    mul-fill-part-3
+    sub-fill-part-2
+    part-fill-part-start-2
+    part-fill-part-end-2
+    fill-part-requires-2
+    same-length
+    returns)

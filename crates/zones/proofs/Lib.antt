@@ -1,0 +1,3 @@
+-- Laws of the zones.
+pub mod Inside
+pub mod Along
