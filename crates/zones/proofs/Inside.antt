@@ -1,7 +1,7 @@
 -- "DR[k] x DR[90-k] <= 4096 for k 1 to 89, which keeps zone 2 inside its left edge" (document 01, Directions): by a test that antt computes, and what
 -- follows of two steps with such a product. Assumes nothing.
 use mathlib.Core.Bool.{Bool, true, cond}
-use mathlib.Core.Path.{_≡_}
+use mathlib.Core.Path.{_≡_, subst}
 use Prim.Native.Nat.{ℕ, _+_, _*_, _-_, _≤_, _<_}
 use native.Mathlib.Nat.{mul-le-mul-right, mul-le-mul-left}
 use native.Mathlib.Omega.{arith}
@@ -39,3 +39,11 @@ step-low k l h =
 pub left-inside : (r c dx dy : ℕ) → 0 < dy → dx * dy ≤ 4096 → 64 * (c + 1) < (r + 1) * dx → (c + 1) * dy < 64 * (r + 1)
 left-inside r c dx dy p l h =
     omega (arith, mul-le-mul-right dy h, mul-le-mul-left (r + 1) l)
+
+-- both steps of zone 2
+pub steps-within : (angle : ℕ) → 90 < angle → angle < 180
+    → (0 < step (180 - angle)) × (0 < step (angle - 90)) × (step (180 - angle) * step (angle - 90) ≤ 4096)
+steps-within angle l h =
+    let other : 90 - (180 - angle) ≡ angle - 90 = omega arith in
+    let p = step-within (180 - angle) (omega arith) (omega arith) in
+    (p .0, step-within (angle - 90) (omega arith) (omega arith) .0, subst (λ (k : ℕ). step (180 - angle) * step k ≤ 4096) other (p .1))

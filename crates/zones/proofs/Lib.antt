@@ -1,3 +1,4 @@
 -- Laws of the zones.
 pub mod Inside
 pub mod Along
+pub mod Blocks

@@ -1,0 +1,153 @@
+-- `directed_into` meets its contract: the words' direction, depth, flags and limits are the definition's. Assumes nothing.
+use native.Mathlib.Omega.{arith}
+use mathlib.Core.Path.{_≡_, sym, _∙_, ap}
+use mathlib.Core.Bool.{Bool, true}
+use Prim.Native.Nat.{ℕ, _≤_, _+_, _*_}
+use lib.IntN.{ℤ, pos, natAbs}
+use mir.Facts.{toZ-ofZ}
+use borrow.Author.Needs.{needs, sfits-of}
+use mir.Syntax.{w32}
+use mir.Val.{toZ, ofZ}
+use Rattle.numbers.specs.Depth.{most}
+use Rattle.numbers.specs.Dir.{dirOf, deltaOf, isDir, isDelta}
+use Rattle.numbers.proofs.Agree.{dir-no, depth-back, depth-no}
+use Rattle.numbers.proofs.Angle.{delta-small}
+use Rattle.zint.proofs.Bound.{back}
+use Rattle.zint.proofs.Range.{pos-inside}
+use Rattle.calls.proofs.Accepted.{depth-most}
+use Rattle.lists.specs.Block.{block}
+use Rattle.directional.specs.Directional.{directionalAt}
+use Rattle.directional.specs.Words.{angleFrom, limitOf}
+use Rattle.directional.proofs.Named.{fours, named-all, angle-from, angle-in, never, limit-most}
+use Rattle.directional.proofs.words.directed_into.Statement.{statement}
+use Rattle.directional.proofs.words.directed_into.Tie as tie
+
+-- the words, looked up
+module _ (v : tie.After-of3) where
+  abbrev o : tie.After-of2
+  o = v .before .before .before .before
+
+  abbrev s : tie.Start
+  s = o .before .before .before .before .before .before
+
+  names : (isDir (s .args .direction) ≡ true) × (isDelta (s .args .delta) ≡ true)
+  names = named-all (s .args .direction) (s .args .delta) (s .args .flags) (s .pre .0 .2)
+
+module _ (d : tie.After-delta) where
+  abbrev t : tie.Start
+  t = s (d .before)
+
+  delta-is : toZ w32 (ofZ w32 (d .delta .result)) ≡ deltaOf (t .args .delta)
+  delta-is = back w32 {z = d .delta .result} (sfits-of (d .delta .ok)) ∙ d .delta .ensures
+
+module _ (a : tie.After-turned) where
+  abbrev found : tie.After-dir
+  found = o (a .before .before) .before .before
+
+  angle-is : a .turned .result ≡ angleFrom (dirOf (t (a .before) .args .direction)) (t (a .before) .args .delta)
+  angle-is = angle-from _ _ _ (sym (found .before .before .of .ensures) ∙ found .dir .given .1) _ _ (delta-is (a .before)) (a .turned .ensures)
+
+  angle-ok : (36 ≤ angleFrom (dirOf (t (a .before) .args .direction)) (t (a .before) .args .delta)) × (angleFrom (dirOf (t (a .before) .args .direction)) (t (a .before) .args .delta) ≤ 212)
+  angle-ok = angle-in _ _ _ (sym (found .before .before .of .ensures) ∙ found .dir .given .1) (names (a .before .before) .1)
+
+module _ (x : tie.After-max) where
+  abbrev a : tie.After-turned
+  a = x .before .before .before
+
+  abbrev u : tie.Start
+  u = t (a .before)
+
+  M-is : toZ w32 (ofZ w32 (x .max .result)) ≡ pos (most (u .args .d))
+  M-is =
+      let k = a .before .before .before .before in
+      back w32 {z = x .max .result} (sfits-of (x .max .ok))
+      ∙ x .max .ensures
+      ∙ ap (λ n. pos (most n)) (depth-back _ _ (sym (k .before .before .of2 .ensures) ∙ k .depth .given .1))
+
+of-requires : tie.Need-of-requires
+of-requires c κs = search needs
+
+enum-known-dir : tie.Need-enum-known-dir
+enum-known-dir c = search needs
+
+enum-told : tie.Need-enum-told
+enum-told c = search needs
+
+returns : tie.Need-returns
+returns c = absurd (never _ (named-all _ _ _ (c .before .before .before .before .pre .0 .2) .0) (dir-no _ (sym (c .before .before .of .ensures) ∙ c .enum-told .given .1)))
+
+of-requires-2 : tie.Need-of-requires-2
+of-requires-2 c κs = search needs
+
+enum-known-depth : tie.Need-enum-known-depth
+enum-known-depth c = search needs
+
+enum-told-2 : tie.Need-enum-told-2
+enum-told-2 c = search needs
+
+returns-2 : tie.Need-returns-2
+returns-2 c = absurd (never _ (c .before .before .before .before .before .before .before .before .pre .0 .1) (depth-no _ (sym (c .before .before .of2 .ensures) ∙ c .enum-told2 .given .1)))
+
+of-requires-3 : tie.Need-of-requires-3
+of-requires-3 c κs = search needs
+
+delta-requires : tie.Need-delta-requires
+delta-requires c κs = names c .1
+
+turned-requires : tie.Need-turned-requires
+turned-requires c κs = rw (delta-is c) (delta-small (t c .args .delta) (names (c .before) .1))
+
+limit-of-requires : tie.Need-limit-of-requires
+limit-of-requires c κs = search needs
+
+limit-of-requires-2 : tie.Need-limit-of-requires-2
+limit-of-requires-2 c κs = search needs
+
+max-requires : tie.Need-max-requires
+max-requires c κs = search needs
+
+directional-into-requires : tie.Need-directional-into-requires
+directional-into-requires c κs =
+    let x = c .before in
+    let s = u x in
+    let f = fours (s .args .b) (s .pre .0 .0) in
+    let g = angle-ok (a x) in
+    simp (M-is x, angle-is (a x), x .before .limit-of2 .ensures, x .before .before .limit-of .ensures, toZ-ofZ, s .fits .corner) (
+      (f, g .0, omega (arith, g .1), limit-most (s .args .b) (s .args .wide) (omega arith) (omega arith), limit-most (s .args .b) (s .args .high) (omega arith) (omega arith), omega (arith, s .pre .0 .3), omega (arith, s .pre .0 .4), s .pre .0 .5),
+      (λ i h. s .pre .1 .0 i (omega arith), λ i h. s .pre .1 .1 i (omega arith), s .pre .1 .2, pos-inside 4095 (most (s .args .d)) (depth-most (s .args .d) (s .pre .0 .1))),
+    )
+
+same-length : tie.Need-same-length
+same-length c = search needs
+
+returns-3 : tie.Need-returns-3
+returns-3 c =
+    let e = c .before .before in
+    let x = e .before .before in
+    let s = u x in
+    let v = a x .before .before in
+    let B = s .args .b in
+    e .directional-into .ensures
+    ∙ (λ j. block B B (directionalAt B B (M-is x j) (v .of3 .ensures j .above) (v .of3 .ensures j .left) (v .of3 .ensures j .luma) (v .of3 .ensures j .«edge_filter») (v .of3 .ensures j .«smooth_neighbour») (x .before .before .limit-of .ensures j) (x .before .limit-of2 .ensures j) (angle-is (a x) j) (s .args .above .now) (s .args .left .now) (toZ-ofZ (s .fits .corner) j)) (s .args .out .now))
+
+pub directed-into-spec : {M : Type 1} → statement M
+directed-into-spec =
+    tie.close
+    (tie.spec
+    of-requires
+    enum-known-dir
+    enum-told
+    returns
+    of-requires-2
+    enum-known-depth
+    enum-told-2
+    returns-2
+    of-requires-3
+    delta-requires
+    turned-requires
+    limit-of-requires
+    limit-of-requires-2
+    max-requires
+    directional-into-requires
+    same-length
+    returns-3)

@@ -1,0 +1,3 @@
+-- Directions, from document 01.
+pub mod Directional
+pub mod Words

@@ -1,0 +1,32 @@
+-- A direction in a job's words: direction, delta + 3, flags, max-width, max-height (document 01, Ranges and numbers that name things).
+use Prim.Native.Nat.{ℕ}
+use mathlib.Core.Bool.{Bool, cond, _&&_}
+use lib.Dec.{leb}
+use lib.IntN.{pos, natAbs}
+use Rattle.numbers.specs.Depth.{most}
+use Rattle.numbers.specs.Dir.{dirOf, angleOf, deltaOf, isDir, isDelta}
+use Rattle.numbers.specs.Flag.{isSet, noStray}
+use Rattle.numbers.specs.declared.dir.FoundDir.{FoundDir}
+use Rattle.numbers.specs.declared.dir.FoundDir.the-variants.{Is, NoDir}
+use Rattle.numbers.specs.declared.flag.Flag.the-variants.{Above, Left, Luma, EdgeFilter, SmoothNeighbour}
+use Rattle.calls.specs.Direct.{Predictor}
+use Rattle.directional.specs.Directional.{directionalAt}
+
+-- refusal 3: "direction above 7, delta word above 6, a stray flag bit"
+unfoldable pub isNamed : ℕ → ℕ → ℕ → Bool
+isNamed direction delta flags = isDir direction && (isDelta delta && noStray flags)
+
+-- "the angle is the direction's degrees plus 3 times delta"
+abbrev pub angleFrom : FoundDir → ℕ → ℕ
+angleFrom (Is d) delta = natAbs (angleOf d (deltaOf delta))
+angleFrom NoDir delta = 0
+
+-- "Max-width or max-height 0 stands for B."
+unfoldable pub limitOf : ℕ → ℕ → ℕ
+limitOf B word = cond (leb 1 word) word B
+
+-- the predictor that the words name, at depth D
+abbrev pub directed : ℕ → ℕ → ℕ → ℕ → ℕ → ℕ → Predictor
+directed D direction delta flags wide high B above left k =
+    directionalAt B B (pos (most D)) (isSet Above flags) (isSet Left flags) (isSet Luma flags) (isSet EdgeFilter flags) (isSet SmoothNeighbour flags)
+    (limitOf B wide) (limitOf B high) (angleFrom (dirOf direction) delta) above left k

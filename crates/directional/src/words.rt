@@ -1,0 +1,80 @@
+// A direction in a job's words (document 01, Ranges and numbers that name things).
+use crate::choice;
+use numbers::depth::Depth;
+use numbers::depth::FoundDepth;
+use numbers::dir::Dir;
+use numbers::dir::FoundDir;
+use numbers::flag::Flags;
+ghost use mathlib.Core.Path.{_≡_};
+ghost use mathlib.Core.Bool.{true};
+ghost use Prim.Native.Nat.{_*_, _≤_};
+ghost use lib.IntN.{pos};
+ghost use lib.ListN.{length};
+ghost use Rattle.numbers.specs.Size.{isSize};
+ghost use Rattle.numbers.specs.Depth.{isDepth, most};
+ghost use Rattle.zint.specs.Range.{inside, Edge};
+ghost use Rattle.lists.specs.Block.{block};
+ghost use Rattle.directional.specs.Words.{isNamed, limitOf, directed};
+
+// Refusal 3: whether the words name a direction.
+pub fn is_named(direction: u16, delta: u16, flags: u16) -> bool
+    ensures { λ r. ⌜ r ≡ isNamed direction delta flags ⌝ }
+{
+    let FoundDir::Is(_) = Dir::of(direction) else {
+        return false;
+    };
+    if !Dir::is_delta(delta) {
+        return false;
+    }
+    Flags::no_stray(flags)
+}
+
+// "Max-width or max-height 0 stands for B."
+fn limit_of(b: u16, word: u16) -> usize
+    ensures { λ r. ⌜ r ≡ limitOf b word ⌝ }
+{
+    if word > 0 { word as usize } else { b as usize }
+}
+
+// The block that the words name, in out[..b * b].
+pub fn directed_into(
+    b: u16,
+    d: u16,
+    direction: u16,
+    delta: u16,
+    flags: u16,
+    wide: u16,
+    high: u16,
+    above: &[i32],
+    left: &[i32],
+    corner: i32,
+    out: &mut [f32],
+)
+    requires { ⌜ (isSize b ≡ true) × (isDepth d ≡ true) × (isNamed direction delta flags ≡ true) × (2 * b ≤ length (now above)) × (2 * b ≤ length (now left)) × (b * b ≤ length (now out)) ⌝ }
+    requires { ⌜ Edge (most d) (2 * b) (now above) × Edge (most d) (2 * b) (now left) × (inside (pos (most d)) corner ≡ true) ⌝ }
+    ensures { λ _. ⌜ now (out .exit) ≡ block b b (directed d direction delta flags wide high b (now (above .entry)) (now (left .entry)) corner) (now (out .entry)) ⌝ }
+{
+    let FoundDir::Is(dir) = Dir::of(direction) else {
+        return;
+    };
+    let FoundDepth::Is(depth) = Depth::of(d) else {
+        return;
+    };
+    let f = Flags::of(flags);
+    choice::directional_into(
+        b as usize,
+        dir.turned(Dir::delta(delta)),
+        f.above,
+        f.left,
+        f.luma,
+        f.edge_filter,
+        f.smooth_neighbour,
+        limit_of(b, wide),
+        limit_of(b, high),
+        depth.max(),
+        above,
+        left,
+        corner,
+        out,
+    );
+}
