@@ -25,6 +25,7 @@ enum latch_answer {
     LATCH_DONE = 0,          /* the work is done */
     LATCH_BAD_SIZE = 1,      /* B is none of 4, 8, 16, 32, 64 */
     LATCH_BAD_DEPTH = 2,     /* D is none of 8, 10, 12 */
+    LATCH_BAD_MODE = 3,      /* a direction above 7, a delta word above 6, or a stray flag bit */
     LATCH_OUTSIDE_PLANE = 4, /* x + B > width or y + B > height */
     LATCH_NO_NEIGHBOUR = 5,  /* a neighbour that is said to be there is not in the plane */
     LATCH_BAD_BASE = 6,      /* neither neighbour is there, and base is not in 1..M-1 */
@@ -117,6 +118,29 @@ uint32_t latch_smooth_v(uint16_t b, uint16_t d, const int32_t *above, size_t abo
  * A refused call changes nothing; a longer out keeps its tail; the slices must not overlap. */
 uint32_t latch_smooth_h(uint16_t b, uint16_t d, const int32_t *above, size_t above_len,
                         const int32_t *left, size_t left_len, int32_t corner, float *out, size_t out_len);
+
+/* directional: each sample of the block lies on a line through the edges, and is worked out between the entries at its end.
+ *
+ * The line's angle is the direction's degrees plus 3 times delta; delta is told as delta + 3, 0 to 6. Directions 0 to 7 have
+ * 90, 180, 45, 135, 113, 157, 203 and 67 degrees. Flag bits: 0 above is there, 1 left is there, 2 luma, 3 edge filter,
+ * 4 smooth neighbour. Angle 90, or below 90 with above missing, copies above down; angle 180, or over 180 with left missing,
+ * copies left across. Else angles below 90 go by above, those over 180 by left and those between by both, each with the
+ * corner. Luma takes four entries for a sample, else two. The edge filter smooths an edge that is there, by a strength that
+ * hangs on B, the angle and the smooth neighbour, as far as max_width (above) and max_height (left) allow; 0 stands for B.
+ * Any 16-bit max_width and max_height is taken, and one above B does what B does.
+ *
+ * Writes out[0..B*B-1], row by row. Lent: above and left, at least 2B entries each; out, at least B x B entries.
+ *
+ * Refusals, in the order of checking:
+ *    1  b is none of 4, 8, 16, 32, 64
+ *    2  d is none of 8, 10, 12
+ *    3  direction is above 7, delta is above 6, or a bit of flags from 5 on is set
+ *    9  above_len or left_len is under 2B, or out_len is under B x B
+ *    8  one of the first 2B entries of above or left, or the corner, is not in 0..M
+ * A refused call changes nothing; a longer out keeps its tail; the slices must not overlap. */
+uint32_t latch_directional(uint16_t b, uint16_t d, uint16_t direction, uint16_t delta, uint16_t flags,
+                           uint16_t max_width, uint16_t max_height, const int32_t *above, size_t above_len,
+                           const int32_t *left, size_t left_len, int32_t corner, float *out, size_t out_len);
 
 #ifdef __cplusplus
 }

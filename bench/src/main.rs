@@ -19,10 +19,12 @@ mod spec;
 mod util;
 
 mod blocks;
+mod directional;
 mod edges;
 mod predictors;
 mod rust;
 mod timing;
+mod ways;
 
 const SEED: u64 = 0x4C61_7463_6862_6E63;
 
@@ -31,5 +33,6 @@ fn main() {
     println!("seed {SEED}; ns for one block; the last column is the geometric mean of Rust / ours");
     println!("{:<30}{cells}{:>10}", "B", "mean");
     predictors::run(SEED);
+    directional::run(SEED);
     edges::run(SEED);
 }

@@ -1,5 +1,5 @@
 // rust.rs: the original functions, each behind one call that is not inlined, as the library's are.
-use crate::original::{self, IntraRefSpec};
+use crate::original::{self, Dir, DirectionalSpec, IntraRefSpec};
 
 #[inline(never)]
 pub fn paeth_into(bs: usize, above: &[i32], left: &[i32], corner: i32, out: &mut [f32]) {
@@ -19,6 +19,11 @@ pub fn smooth_v_into(bs: usize, above: &[i32], left: &[i32], out: &mut [f32]) {
 #[inline(never)]
 pub fn smooth_h_into(bs: usize, above: &[i32], left: &[i32], out: &mut [f32]) {
     original::smooth_h_into(bs, above, left, out)
+}
+
+#[inline(never)]
+pub fn directional_into(dir: Dir, above: &[i32], left: &[i32], corner: i32, spec: &DirectionalSpec, out: &mut [f32]) {
+    original::directional_into(dir, above, left, corner, spec, out)
 }
 
 #[inline(never)]

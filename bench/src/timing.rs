@@ -46,6 +46,10 @@ pub fn print_times(name: &str, times: &[f64]) {
 pub fn print_ratios(rust: &[f64], ours: &[f64]) {
     let ratios: Vec<f64> = rust.iter().zip(ours).map(|(r, o)| r / o).collect();
     let cells: String = ratios.iter().map(|r| format!("{r:>10.2}")).collect();
-    let mean = (ratios.iter().map(|r| r.ln()).sum::<f64>() / ratios.len() as f64).exp();
-    println!("{:<30}{cells}{mean:>10.2}", "    Rust / ours");
+    println!("{:<30}{cells}{:>10.2}", "    Rust / ours", mean(&ratios));
+}
+
+/// The geometric mean.
+pub fn mean(ratios: &[f64]) -> f64 {
+    (ratios.iter().map(|r| r.ln()).sum::<f64>() / ratios.len() as f64).exp()
 }

@@ -1,5 +1,5 @@
 // calls.rs: the library's C functions, declared, and safe ways to call them.
-use crate::spec::{Mode, Spec};
+use crate::spec::{Mode, Spec, Words};
 
 type Predictor =
     unsafe extern "C" fn(u16, u16, *const i32, usize, *const i32, usize, i32, *mut f32, usize) -> u32;
@@ -17,6 +17,11 @@ macro_rules! predictors {
 predictors!(latch_paeth, latch_smooth, latch_smooth_v, latch_smooth_h);
 
 extern "C" {
+    fn latch_directional(
+        b: u16, d: u16, direction: u16, delta: u16, flags: u16, max_width: u16, max_height: u16,
+        above: *const i32, above_len: usize, left: *const i32, left_len: usize, corner: i32, out: *mut f32, out_len: usize,
+    ) -> u32;
+
     fn latch_build_refs(
         plane: *const f32, plane_len: usize, width: usize, height: usize, x: u16, y: u16, b: u16, d: u16,
         have_above: bool, have_left: bool, top_right: u16, bottom_left: u16, available_above: u16, available_left: u16,
@@ -33,6 +38,7 @@ pub fn name(mode: Mode) -> &'static str {
         Mode::Smooth => "latch_smooth",
         Mode::SmoothV => "latch_smooth_v",
         Mode::SmoothH => "latch_smooth_h",
+        Mode::Directional(_) => "latch_directional",
     }
 }
 
@@ -44,10 +50,23 @@ pub fn predict(mode: Mode, b: u16, d: u16, above: &[i32], left: &[i32], corner: 
         Mode::Smooth => latch_smooth,
         Mode::SmoothV => latch_smooth_v,
         Mode::SmoothH => latch_smooth_h,
+        Mode::Directional(words) => return directional(words, b, d, above, left, corner, out),
     };
     // The slices are live and do not overlap: `out` is borrowed alone.
     unsafe {
         function(b, d, above.as_ptr(), above.len(), left.as_ptr(), left.len(), corner, out.as_mut_ptr(), out.len())
+    }
+}
+
+/// Calls `latch_directional`.
+#[inline]
+pub fn directional(w: Words, b: u16, d: u16, above: &[i32], left: &[i32], corner: i32, out: &mut [f32]) -> u32 {
+    // The slices are live and do not overlap: `out` is borrowed alone.
+    unsafe {
+        latch_directional(
+            b, d, w.direction, w.delta, w.flags, w.max_width, w.max_height,
+            above.as_ptr(), above.len(), left.as_ptr(), left.len(), corner, out.as_mut_ptr(), out.len(),
+        )
     }
 }
 

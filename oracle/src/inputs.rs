@@ -2,7 +2,10 @@
 use crate::random::Random;
 
 /// How many ways there are to fill an edge.
-pub const KINDS: usize = 11;
+#[allow(dead_code)]
+pub const KINDS: usize = 13;
+/// The way that draws every entry.
+pub const RANDOM: usize = 10;
 
 /// Fills an edge with entries in 0..M, in one of the ways.
 pub fn fill_edge(random: &mut Random, kind: usize, most: i32, edge: &mut [i32]) {
@@ -22,7 +25,9 @@ pub fn fill_edge(random: &mut Random, kind: usize, most: i32, edge: &mut [i32]) 
             7 => (start + random.within(-1, 1)).clamp(0, most),
             8 => start,
             9 => if i < turn { 0 } else { most },
-            _ => random.within(0, most),
+            RANDOM => random.within(0, most),
+            11 => (start + i) % 2 * most,
+            _ => (start + i / slope) % 2 * most,
         };
     }
 }

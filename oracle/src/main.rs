@@ -1,5 +1,7 @@
 // main.rs: holds the proved library against the original Rust. Two arguments: the scale, of which 1 is the usual run, and the project's root.
 mod calls;
+mod direct;
+mod directional;
 mod draw;
 mod edges;
 mod guard;
@@ -23,7 +25,7 @@ fn main() {
         std::process::exit(2);
     };
     println!("oracle: seed {SEED}, scale {scale}");
-    let samples = predictors::compare(SEED, scale);
+    let samples = predictors::compare(SEED, scale) + directional::compare(SEED, scale);
     let sets = edges::compare(SEED, scale);
     still::compare(&std::env::args().nth(2).unwrap_or_default());
     println!("oracle: {samples} predicted samples, {sets} edge sets, 0 differences");

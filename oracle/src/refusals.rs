@@ -1,5 +1,5 @@
 // refusals.rs: document 01's table of refusals, read on its own: the number due for any input, in each call's order.
-use crate::spec::Spec;
+use crate::spec::{Mode, Spec};
 
 fn is_size(b: u16) -> bool {
     b == 4 || b == 8 || b == 16 || b == 32 || b == 64
@@ -9,13 +9,18 @@ fn is_depth(d: u16) -> bool {
     d == 8 || d == 10 || d == 12
 }
 
-/// 1, 2, 9, 8: what a direct predictor call answers.
-pub fn direct(b: u16, d: u16, above: &[i32], left: &[i32], corner: i32, out_len: usize) -> u32 {
+/// 1, 2, 3, 9, 8: what a direct predictor call answers. Only a direction has words that 3 looks at.
+pub fn direct(mode: Mode, b: u16, d: u16, above: &[i32], left: &[i32], corner: i32, out_len: usize) -> u32 {
     if !is_size(b) {
         return 1;
     }
     if !is_depth(d) {
         return 2;
+    }
+    if let Mode::Directional(words) = mode {
+        if words.direction > 7 || words.delta > 6 || words.flags > 0b11111 {
+            return 3;
+        }
     }
     let side = b as usize;
     if above.len() < 2 * side || left.len() < 2 * side || out_len < side * side {

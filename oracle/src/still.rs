@@ -3,6 +3,7 @@ use crate::original;
 use crate::spec::{Spec, MODES};
 
 const BLOCK: usize = 8;
+const DEPTH: u16 = 8;
 const LETTERS: [char; 4] = ['P', 'S', 'V', 'H'];
 
 /// The samples of a plain greymap, and its width.
@@ -18,14 +19,14 @@ fn picture(text: &str) -> (Vec<f32>, usize) {
 fn nearest(plane: &[f32], width: usize, x: usize, y: usize) -> char {
     let beyond = if x + 2 * BLOCK <= width { BLOCK as u16 } else { 0 };
     let spec = Spec {
-        width, height: plane.len() / width, x: x as u16, y: y as u16, b: BLOCK as u16, d: 8,
+        width, height: plane.len() / width, x: x as u16, y: y as u16, b: BLOCK as u16, d: DEPTH,
         have_above: y > 0, have_left: x > 0, top_right: beyond, bottom_left: 0,
         available_above: BLOCK as u16, available_left: BLOCK as u16, base: 128,
     };
     let (above, left, corner) = original::edges(plane, &spec);
     let off = |mode| {
         let mut out = [0f32; BLOCK * BLOCK];
-        original::predict(mode, BLOCK, &above, &left, corner, &mut out);
+        original::predict(mode, BLOCK as u16, DEPTH, &above, &left, corner, &mut out);
         (0..BLOCK * BLOCK).map(|i| (out[i] - plane[(y + i / BLOCK) * width + x + i % BLOCK]).abs()).sum::<f32>()
     };
     let mut best = 0;

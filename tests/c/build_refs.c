@@ -6,8 +6,8 @@
 
 #include "latchorchard.h"
 
-enum { WIDTH = 1, HEIGHT, PLANE_MORE, X, Y, B, D, HAVE_ABOVE, HAVE_LEFT, TOP_RIGHT, BOTTOM_LEFT, AVAILABLE_ABOVE,
-       AVAILABLE_LEFT, BASE, ABOVE_LEN, LEFT_LEN, CORNER_LEN, SAMPLE_AT, SAMPLE_IS };
+enum { WIDTH = OWN_FIELDS, HEIGHT, PLANE_MORE, X, Y, HAVE_ABOVE, HAVE_LEFT, TOP_RIGHT, BOTTOM_LEFT, AVAILABLE_ABOVE,
+       AVAILABLE_LEFT, BASE, CORNER_LEN, SAMPLE_AT, SAMPLE_IS };
 #define BIT(field) (UINT32_C(1) << (field))
 #define ABOVE_BITS (BIT(HAVE_ABOVE) | BIT(X) | BIT(Y) | BIT(WIDTH) | BIT(HEIGHT) | BIT(TOP_RIGHT) | BIT(AVAILABLE_ABOVE) | BIT(B))
 #define LEFT_BITS (BIT(HAVE_LEFT) | BIT(X) | BIT(Y) | BIT(WIDTH) | BIT(HEIGHT) | BIT(BOTTOM_LEFT) | BIT(AVAILABLE_LEFT) | BIT(B))
@@ -31,12 +31,6 @@ static const struct fault faults[] = {
     {"plane one short", 20, {{PLANE_MORE, -1}}, 0},
     {"plane one longer", 20, {{PLANE_MORE, 1}}, 0},
     {"plane empty", 20, {{PLANE_MORE, -192}}, 0},
-    {"B 0", 1, {{B, 0}}, 0},
-    {"B 6", 1, {{B, 6}}, 0},
-    {"B 128", 1, {{B, 128}}, 0},
-    {"D 9", 2, {{D, 9}}, 0},
-    {"D 0", 2, {{D, 0}}, 0},
-    {"D 65535", 2, {{D, 65535}}, 0},
     {"x 13", 4, {{X, 13}}, 0},
     {"x 65532", 4, {{X, 65532}}, 0},
     {"y 9", 4, {{Y, 9}}, 0},
@@ -62,12 +56,6 @@ static const struct fault faults[] = {
     {"bottom-left 65535", 0, {{BOTTOM_LEFT, 65535}}, LEFT_BITS},
     {"available_above 65535", 0, {{AVAILABLE_ABOVE, 65535}}, ABOVE_BITS},
     {"available_left 65535", 0, {{AVAILABLE_LEFT, 65535}}, LEFT_BITS},
-    {"above one short", 9, {{ABOVE_LEN, 127}}, 0},
-    {"above empty", 9, {{ABOVE_LEN, 0}}, 0},
-    {"above longer", 0, {{ABOVE_LEN, 131}}, 0},
-    {"left one short", 9, {{LEFT_LEN, 127}}, 0},
-    {"left empty", 9, {{LEFT_LEN, 0}}, 0},
-    {"left longer", 0, {{LEFT_LEN, 131}}, 0},
     {"corner empty", 9, {{CORNER_LEN, 0}}, 0},
     {"corner longer", 0, {{CORNER_LEN, 4}}, 0},
     {"every sample NaN", 8, {{SAMPLE_AT, EVERYWHERE}, {SAMPLE_IS, BITS_NAN}}, BIT(HAVE_ABOVE) | BIT(HAVE_LEFT)},
@@ -116,8 +104,9 @@ static uint32_t make(const struct call *call, const int64_t *f, bool *kept) {
     float *plane = zone_lend(&plane_zone, plane_len * sizeof *plane);
     fill_plane(plane, plane_len, f[SAMPLE_AT], f[SAMPLE_IS], most);
     zone_remember(&plane_zone);
-    int32_t *above = zone_lend(&above_zone, (size_t)f[ABOVE_LEN] * sizeof *above);
-    int32_t *left = zone_lend(&left_zone, (size_t)f[LEFT_LEN] * sizeof *left);
+    size_t above_len = length(LATCH_EDGE_ENTRIES, f[ABOVE_MORE]), left_len = length(LATCH_EDGE_ENTRIES, f[LEFT_MORE]);
+    int32_t *above = zone_lend(&above_zone, above_len * sizeof *above);
+    int32_t *left = zone_lend(&left_zone, left_len * sizeof *left);
     int32_t *corner = zone_lend(&corner_zone, (size_t)f[CORNER_LEN] * sizeof *corner);
     zone_remember(&above_zone);
     zone_remember(&left_zone);
@@ -125,7 +114,7 @@ static uint32_t make(const struct call *call, const int64_t *f, bool *kept) {
     uint32_t answer = latch_build_refs(
         plane, plane_len, (size_t)f[WIDTH], (size_t)f[HEIGHT], (uint16_t)f[X], (uint16_t)f[Y], (uint16_t)f[B], (uint16_t)f[D],
         f[HAVE_ABOVE], f[HAVE_LEFT], (uint16_t)f[TOP_RIGHT], (uint16_t)f[BOTTOM_LEFT], (uint16_t)f[AVAILABLE_ABOVE],
-        (uint16_t)f[AVAILABLE_LEFT], (uint16_t)with_max(f[BASE], most), above, (size_t)f[ABOVE_LEN], left, (size_t)f[LEFT_LEN],
+        (uint16_t)f[AVAILABLE_LEFT], (uint16_t)with_max(f[BASE], most), above, above_len, left, left_len,
         corner, (size_t)f[CORNER_LEN]);
     size_t edge = answer == LATCH_DONE ? LATCH_EDGE_ENTRIES * sizeof *above : 0;
     *kept = zone_kept(&plane_zone, 0) && zone_kept(&above_zone, edge) && zone_kept(&left_zone, edge) &&
@@ -135,11 +124,10 @@ static uint32_t make(const struct call *call, const int64_t *f, bool *kept) {
 
 void test_build_refs(void) {
     for (int64_t d = 8; d <= 12; d += 2) {
-        struct call call = {.order = order, .faults = faults, .faults_count = COUNT(faults), .make = make,
+        struct call call = {.order = order, .tables = {common_faults, FAULTS(faults)}, .make = make,
                             .plain = {[WIDTH] = 16, [HEIGHT] = 12, [X] = 4, [Y] = 4, [B] = 4, [D] = d, [HAVE_ABOVE] = 1,
                                       [HAVE_LEFT] = 1, [TOP_RIGHT] = 4, [BOTTOM_LEFT] = 4, [AVAILABLE_ABOVE] = 4,
-                                      [AVAILABLE_LEFT] = 4, [BASE] = 128, [ABOVE_LEN] = 128, [LEFT_LEN] = 128,
-                                      [CORNER_LEN] = 1, [SAMPLE_AT] = NOWHERE}};
+                                      [AVAILABLE_LEFT] = 4, [BASE] = 128, [CORNER_LEN] = 1, [SAMPLE_AT] = NOWHERE}};
         snprintf(call.name, sizeof call.name, "latch_build_refs D %d", (int)d);
         try_faults(&call);
     }

@@ -50,6 +50,10 @@ int64_t with_max(int64_t value, int64_t most) {
     return value > INT64_C(1) << 39 && value < INT64_C(1) << 41 ? value - M_PLUS(0) + most : value;
 }
 
+size_t length(int64_t needed, int64_t more) {
+    return more == NONE ? 0 : (size_t)(needed + more < 0 ? 0 : needed + more);
+}
+
 /* The fields that a fault sets, a bit for each. */
 static uint32_t fields_set(const struct fault *fault) {
     uint32_t fields = 0;
@@ -88,11 +92,20 @@ static void try_both(const struct call *call, const struct fault *one, const str
     check(kept, "%s with %s and %s changes memory that it must keep", call->name, one->name, second);
 }
 
+/* The fault at a place in all the call's tables, or none past the last. */
+static const struct fault *fault_at(const struct call *call, size_t place) {
+    for (size_t t = 0; t < TABLES_MOST; t++) {
+        if (place < call->tables[t].count) return &call->tables[t].rows[place];
+        place -= call->tables[t].count;
+    }
+    return NULL;
+}
+
 void try_faults(const struct call *call) {
-    for (size_t i = 0; i < call->faults_count; i++) {
-        const struct fault *one = &call->faults[i];
+    const struct fault *one, *two;
+    for (size_t i = 0; (one = fault_at(call, i)) != NULL; i++) {
         try_both(call, one, one);
-        for (size_t j = i + 1; j < call->faults_count; j++)
-            if (together(one, &call->faults[j])) try_both(call, one, &call->faults[j]);
+        for (size_t j = i + 1; (two = fault_at(call, j)) != NULL; j++)
+            if (together(one, two)) try_both(call, one, two);
     }
 }

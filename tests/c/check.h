@@ -24,8 +24,12 @@ void *zone_lend(struct zone *zone, size_t bytes);
 void zone_remember(struct zone *zone);
 bool zone_kept(const struct zone *zone, size_t written);
 
-/* A call's parameters are numbered fields from 1 on. */
-enum { FIELDS_MOST = 32, SETS_MOST = 4 };
+/* A call's parameters are numbered fields from 1 on. Every call has the first ones; from OWN_FIELDS on they are its own. */
+enum { B = 1, D, ABOVE_MORE, LEFT_MORE, OWN_FIELDS };
+enum { FIELDS_MOST = 32, SETS_MOST = 4, TABLES_MOST = 3 };
+/* Lengths are told as entries more than needed; NONE is an empty slice. */
+#define NONE INT64_MIN
+size_t length(int64_t needed, int64_t more);
 /* Encodes M + k, for the M of the depth in use. */
 #define M_PLUS(k) ((INT64_C(1) << 40) + (k))
 /* M + k where M_PLUS(k) stands, else the value. */
@@ -39,11 +43,19 @@ struct fault {
     struct { int field; int64_t value; } sets[SETS_MOST];
     uint32_t uses;
 };
+/* A table of faults: calls can share one. */
+struct faults {
+    const struct fault *rows;
+    size_t count;
+};
+#define FAULTS(rows) {rows, COUNT(rows)}
+/* The faults of every call: in its size, its depth and the lengths of its edges. */
+extern const struct faults common_faults;
+
 struct call {
     char name[64];
     const uint32_t *order;       /* its refusals in the order of checking, then 0 */
-    const struct fault *faults;
-    size_t faults_count;
+    struct faults tables[TABLES_MOST];
     int64_t plain[FIELDS_MOST];  /* the fields of an accepted call */
     /* Makes the call. `kept`: the guards, the inputs and the tails are untouched, and with a refusal all that was lent. */
     uint32_t (*make)(const struct call *call, const int64_t *fields, bool *kept);
@@ -56,6 +68,7 @@ void try_faults(const struct call *call);
 
 void test_paper(void);
 void test_direct(void);
+void test_directions(void);
 void test_build_refs(void);
 
 #endif

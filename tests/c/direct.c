@@ -1,63 +1,55 @@
-/* direct.c: the four direct predictor calls at every size and depth: each refusal, each pair, lengths and tails. */
+/* direct.c: the five direct predictor calls at every size and depth: each refusal, each pair, lengths and tails. */
 #include "check.h"
 
 #include <stdio.h>
-#include <string.h>
 
 #include "latchorchard.h"
 
 typedef uint32_t predictor(uint16_t, uint16_t, const int32_t *, size_t, const int32_t *, size_t, int32_t, float *, size_t);
 
+/* latch_directional has words of its own, and so no function here. */
 static const struct { const char *name; predictor *function; } predictors[] = {
     {"latch_paeth", latch_paeth},
     {"latch_smooth", latch_smooth},
     {"latch_smooth_v", latch_smooth_v},
     {"latch_smooth_h", latch_smooth_h},
+    {"latch_directional", NULL},
 };
 
-/* Lengths are told as entries more than needed; NONE is an empty slice. */
-enum { B = 1, D, ABOVE_MORE, LEFT_MORE, OUT_MORE, ABOVE_AT, ABOVE_IS, LEFT_AT, LEFT_IS, CORNER };
-#define NONE INT64_MIN
+enum { OUT_MORE = OWN_FIELDS, ABOVE_AT, ABOVE_IS, LEFT_AT, LEFT_IS, CORNER, DIRECTION, DELTA, FLAGS, MAX_WIDTH, MAX_HEIGHT };
 /* Places in an edge: one of these entries is set to ABOVE_IS or LEFT_IS. */
 enum { NOWHERE, FIRST, LAST_OF_BLOCK, PAST_BLOCK, LAST, BEYOND };
 
-static const uint32_t order[] = {1, 2, 9, 8, 0};
+static const uint32_t order[] = {1, 2, 3, 9, 8, 0};
 
 static const struct fault faults[] = {
-    {"B 0", 1, {{B, 0}}, 0},
-    {"B 2", 1, {{B, 2}}, 0},
-    {"B 5", 1, {{B, 5}}, 0},
-    {"B 12", 1, {{B, 12}}, 0},
-    {"B 63", 1, {{B, 63}}, 0},
-    {"B 128", 1, {{B, 128}}, 0},
-    {"B 65535", 1, {{B, 65535}}, 0},
-    {"D 0", 2, {{D, 0}}, 0},
-    {"D 9", 2, {{D, 9}}, 0},
-    {"D 11", 2, {{D, 11}}, 0},
-    {"D 16", 2, {{D, 16}}, 0},
-    {"D 65535", 2, {{D, 65535}}, 0},
-    {"above one short", 9, {{ABOVE_MORE, -1}}, 0},
-    {"above empty", 9, {{ABOVE_MORE, NONE}}, 0},
-    {"left one short", 9, {{LEFT_MORE, -1}}, 0},
-    {"left empty", 9, {{LEFT_MORE, NONE}}, 0},
     {"out one short", 9, {{OUT_MORE, -1}}, 0},
     {"out empty", 9, {{OUT_MORE, NONE}}, 0},
-    {"above longer", 0, {{ABOVE_MORE, 3}}, 0},
-    {"left longer", 0, {{LEFT_MORE, 3}}, 0},
     {"out longer", 0, {{OUT_MORE, 3}}, 0},
     {"above[0] -1", 8, {{ABOVE_AT, FIRST}, {ABOVE_IS, -1}}, 0},
+    {"above[0] M+1", 8, {{ABOVE_AT, FIRST}, {ABOVE_IS, M_PLUS(1)}}, 0},
     {"above[0] M", 0, {{ABOVE_AT, FIRST}, {ABOVE_IS, M_PLUS(0)}}, 0},
     {"above[0] 0", 0, {{ABOVE_AT, FIRST}, {ABOVE_IS, 0}}, 0},
     {"above[B-1] M+1", 8, {{ABOVE_AT, LAST_OF_BLOCK}, {ABOVE_IS, M_PLUS(1)}}, 0},
     {"above[B] least", 8, {{ABOVE_AT, PAST_BLOCK}, {ABOVE_IS, INT32_MIN}}, 0},
+    {"above[2B-1] -1", 8, {{ABOVE_AT, LAST}, {ABOVE_IS, -1}}, 0},
     {"above[2B-1] M+1", 8, {{ABOVE_AT, LAST}, {ABOVE_IS, M_PLUS(1)}}, 0},
+    {"above[2B-1] M", 0, {{ABOVE_AT, LAST}, {ABOVE_IS, M_PLUS(0)}}, 0},
+    {"above[2B-1] 0", 0, {{ABOVE_AT, LAST}, {ABOVE_IS, 0}}, 0},
     {"above[2B] -1", 0, {{ABOVE_AT, BEYOND}, {ABOVE_IS, -1}, {ABOVE_MORE, 1}}, 0},
+    {"above[2B] M+1", 0, {{ABOVE_AT, BEYOND}, {ABOVE_IS, M_PLUS(1)}, {ABOVE_MORE, 1}}, 0},
+    {"left[0] -1", 8, {{LEFT_AT, FIRST}, {LEFT_IS, -1}}, 0},
     {"left[0] M+1", 8, {{LEFT_AT, FIRST}, {LEFT_IS, M_PLUS(1)}}, 0},
+    {"left[0] M", 0, {{LEFT_AT, FIRST}, {LEFT_IS, M_PLUS(0)}}, 0},
+    {"left[0] 0", 0, {{LEFT_AT, FIRST}, {LEFT_IS, 0}}, 0},
     {"left[B-1] -1", 8, {{LEFT_AT, LAST_OF_BLOCK}, {LEFT_IS, -1}}, 0},
     {"left[B] M", 0, {{LEFT_AT, PAST_BLOCK}, {LEFT_IS, M_PLUS(0)}}, 0},
     {"left[B] greatest", 8, {{LEFT_AT, PAST_BLOCK}, {LEFT_IS, INT32_MAX}}, 0},
     {"left[2B-1] -1", 8, {{LEFT_AT, LAST}, {LEFT_IS, -1}}, 0},
+    {"left[2B-1] M+1", 8, {{LEFT_AT, LAST}, {LEFT_IS, M_PLUS(1)}}, 0},
+    {"left[2B-1] M", 0, {{LEFT_AT, LAST}, {LEFT_IS, M_PLUS(0)}}, 0},
     {"left[2B] M+1", 0, {{LEFT_AT, BEYOND}, {LEFT_IS, M_PLUS(1)}, {LEFT_MORE, 1}}, 0},
+    {"left[2B] -1", 0, {{LEFT_AT, BEYOND}, {LEFT_IS, -1}, {LEFT_MORE, 1}}, 0},
     {"corner 0", 0, {{CORNER, 0}}, 0},
     {"corner M", 0, {{CORNER, M_PLUS(0)}}, 0},
     {"corner -1", 8, {{CORNER, -1}}, 0},
@@ -66,11 +58,30 @@ static const struct fault faults[] = {
     {"corner greatest", 8, {{CORNER, INT32_MAX}}, 0},
 };
 
-static struct zone above_zone, left_zone, out_zone;
+/* The words that latch_directional alone takes. */
+static const struct fault directional_faults[] = {
+    {"direction 7", 0, {{DIRECTION, 7}}, 0},
+    {"direction 8", 3, {{DIRECTION, 8}}, 0},
+    {"direction 65535", 3, {{DIRECTION, 65535}}, 0},
+    {"delta word 0", 0, {{DELTA, 0}}, 0},
+    {"delta word 6", 0, {{DELTA, 6}}, 0},
+    {"delta word 7", 3, {{DELTA, 7}}, 0},
+    {"delta word 65535", 3, {{DELTA, 65535}}, 0},
+    {"flags 0", 0, {{FLAGS, 0}}, 0},
+    {"flags 31", 0, {{FLAGS, 31}}, 0},
+    {"flags 32", 3, {{FLAGS, 32}}, 0},
+    {"flags 63", 3, {{FLAGS, 63}}, 0},
+    {"flags 256", 3, {{FLAGS, 256}}, 0},
+    {"flags 32768", 3, {{FLAGS, 32768}}, 0},
+    {"max-width 0", 0, {{MAX_WIDTH, 0}}, 0},
+    {"max-width 1", 0, {{MAX_WIDTH, 1}}, 0},
+    {"max-width 65535", 0, {{MAX_WIDTH, 65535}}, 0},
+    {"max-height 0", 0, {{MAX_HEIGHT, 0}}, 0},
+    {"max-height 1", 0, {{MAX_HEIGHT, 1}}, 0},
+    {"max-height 65535", 0, {{MAX_HEIGHT, 65535}}, 0},
+};
 
-static size_t length(int64_t needed, int64_t more) {
-    return more == NONE ? 0 : (size_t)(needed + more < 0 ? 0 : needed + more);
-}
+static struct zone above_zone, left_zone, out_zone;
 
 /* An edge of small whole numbers, with one entry set; its tail keeps the zone's pattern. */
 static const int32_t *edge(struct zone *zone, size_t len, int64_t b, int64_t at, int64_t value) {
@@ -89,10 +100,16 @@ static uint32_t make(const struct call *call, const int64_t *f, bool *kept) {
     size_t out_len = length(b * b, f[OUT_MORE]);
     const int32_t *above = edge(&above_zone, above_len, b, f[ABOVE_AT], with_max(f[ABOVE_IS], most));
     const int32_t *left = edge(&left_zone, left_len, b, f[LEFT_AT], with_max(f[LEFT_IS], most));
+    int32_t corner = (int32_t)with_max(f[CORNER], most);
     float *out = zone_lend(&out_zone, out_len * sizeof *out);
     zone_remember(&out_zone);
-    uint32_t answer = (*function)((uint16_t)f[B], (uint16_t)f[D], above, above_len, left, left_len,
-                                  (int32_t)with_max(f[CORNER], most), out, out_len);
+    uint16_t size = (uint16_t)f[B], depth = (uint16_t)f[D];
+    uint32_t answer =
+        *function != NULL
+            ? (*function)(size, depth, above, above_len, left, left_len, corner, out, out_len)
+            : latch_directional(size, depth, (uint16_t)f[DIRECTION], (uint16_t)f[DELTA], (uint16_t)f[FLAGS],
+                                (uint16_t)f[MAX_WIDTH], (uint16_t)f[MAX_HEIGHT], above, above_len, left, left_len, corner, out,
+                                out_len);
     size_t written = answer == LATCH_DONE ? (size_t)(b * b) * sizeof *out : 0;
     *kept = zone_kept(&above_zone, 0) && zone_kept(&left_zone, 0) && zone_kept(&out_zone, written);
     return answer;
@@ -103,8 +120,11 @@ void test_direct(void) {
     for (size_t p = 0; p < COUNT(predictors); p++)
         for (size_t i = 0; i < COUNT(sizes) * COUNT(depths); i++) {
             int64_t b = sizes[i % COUNT(sizes)], d = depths[i / COUNT(sizes)];
-            struct call call = {.order = order, .faults = faults, .faults_count = COUNT(faults), .make = make,
-                                .plain = {[B] = b, [D] = d, [CORNER] = 100}, .target = &predictors[p].function};
+            struct call call = {.order = order, .tables = {common_faults, FAULTS(faults)}, .make = make,
+                                .plain = {[B] = b, [D] = d, [CORNER] = 100, [DIRECTION] = (int64_t)i % 8, [DELTA] = 2,
+                                          [FLAGS] = 31},
+                                .target = &predictors[p].function};
+            if (predictors[p].function == NULL) call.tables[2] = (struct faults)FAULTS(directional_faults);
             snprintf(call.name, sizeof call.name, "%s B %d D %d", predictors[p].name, (int)b, (int)d);
             try_faults(&call);
         }

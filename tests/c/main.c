@@ -3,6 +3,7 @@
 
 int main(void) {
     test_paper();
+    test_directions();
     test_direct();
     test_build_refs();
     return checks_done();
