@@ -12,12 +12,16 @@ use Rattle.edges.specs.Refs.{Lists, answerFor, refsOf}
 use Rattle.edges.specs.declared.spec.IntraRefSpec.{IntraRefSpec}
 use Rattle.calls.specs.Direct.{Predictor, directAnswer}
 
+-- a predictor's call; named says that its mode's words name a mode
+abbrev pub PredictedByC : Bool → Predictor → ℕ → ℕ → List ℤ → List ℤ → ℤ → List Float → List Float → ℕ → Type 0
+PredictedByC named at B D above left k before after r =
+    Promise (answerNumber (directAnswer B D named above left k (length before)))
+    (lent (directAnswer B D named above left k (length before)) (block B B (at B above left k) before) before)
+    r after
+
 -- a predictor's call that takes no mode
 abbrev pub PredictedC : Predictor → ℕ → ℕ → List ℤ → List ℤ → ℤ → List Float → List Float → ℕ → Type 0
-PredictedC at B D above left k before after r =
-    Promise (answerNumber (directAnswer B D true above left k (length before)))
-    (lent (directAnswer B D true above left k (length before)) (block B B (at B above left k) before) before)
-    r after
+PredictedC = PredictedByC true
 
 -- `build_refs`, whose block and neighbours are given one by one
 abbrev pub spec : ℕ → ℕ → ℕ → ℕ → Bool → Bool → ℕ → ℕ → ℕ → ℕ → ℕ → IntraRefSpec

@@ -3,7 +3,8 @@
 use edges::spec::IntraRefSpec;
 ghost use Rattle.paeth.specs.Paeth.{paethAt};
 ghost use Rattle.smooth.specs.Smooth.{smoothAt, smoothVAt, smoothHAt};
-ghost use Rattle.latch.specs.Exported.{spec, lists, BuiltC, PredictedC};
+ghost use Rattle.directional.specs.Words.{isNamed, directed};
+ghost use Rattle.latch.specs.Exported.{spec, lists, BuiltC, PredictedC, PredictedByC};
 
 // `edges::build_refs`, by its answer's number. The corner is an output of at least one entry.
 #[no_mangle]
@@ -102,4 +103,36 @@ pub extern "C" fn latch_smooth_h(
     ensures { λ r. ⌜ PredictedC smoothHAt b d (now (above .entry)) (now (left .entry)) corner (now (out .entry)) (now (out .exit)) r ⌝ }
 {
     smooth::smooth_h(b, d, above, left, corner, out).number()
+}
+
+// `directional::directional`, by its answer's number. delta is the row's word, delta + 3.
+#[no_mangle]
+pub extern "C" fn latch_directional(
+    b: u16,
+    d: u16,
+    direction: u16,
+    delta: u16,
+    flags: u16,
+    wide: u16,
+    high: u16,
+    above: &[i32],
+    left: &[i32],
+    corner: i32,
+    out: &mut [f32],
+) -> u32
+    ensures { λ r. ⌜ PredictedByC (isNamed direction delta flags) (directed d direction delta flags wide high) b d (now (above .entry)) (now (left .entry)) corner (now (out .entry)) (now (out .exit)) r ⌝ }
+{
+    directional::directional(
+        b,
+        d,
+        direction,
+        delta,
+        flags,
+        wide,
+        high,
+        above,
+        left,
+        corner,
+        out,
+    ).number()
 }
