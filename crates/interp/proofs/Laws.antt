@@ -1,7 +1,7 @@
 -- Laws of interpolation: what is clipped is in 0..M; taps over a part of a list are the taps over the whole from there on; samples that are whole
 -- entries apart. Assumes nothing.
 use mathlib.Core.Bool.{Bool, true, false, cond}
-use mathlib.Core.Path.{_≡_, refl, _∙_, ap, subst}
+use mathlib.Core.Path.{_≡_, refl, sym, _∙_, ap, subst}
 use Prim.Native.Nat.{ℕ, _≤_, _<_, _+_, _-_, _*_, _/_}
 use mathlib.Core.List.{List}
 use lib.ListN.{length, getD, take, drop}
@@ -9,7 +9,7 @@ use native.Mathlib.Omega.{arith}
 use lib.Dec.{T}
 use lib.IntN.{ℤ, pos, negsuc, natAbs}
 use lib.Signed.{ltZ}
-use borrow.Author.Tests.{ltb-false}
+use borrow.Author.Tests.{ltb-false, le-ltb}
 use Rattle.zint.specs.Range.{inside, Edge}
 use Rattle.zint.proofs.Range.{inside-abs}
 use Rattle.lists.proofs.Fill.{rest-at}
@@ -27,6 +27,20 @@ clip-small m M x h = go M x (ltZ x (pos 0)) (ltZ M x) refl refl (inside-abs m M 
     go (pos M) (pos x) false false p q h k = omega (arith, ltb-false M x q)
     go (negsuc M) (pos x) false false p q h k = absurd (subst T q tt)
     go M (negsuc x) false false p q h k = absurd (subst T p tt)
+
+inside-neg : (m n : ℕ) → inside (pos m) (negsuc n) ≡ true → false ≡ true
+unfolding inside
+inside-neg m n h = h
+
+-- in two steps: M is not below 0
+pub clip-steps : (m : ℕ) (M x : ℤ) → inside (pos m) M ≡ true → cond (ltZ M (cond (ltZ x (pos 0)) (pos 0) x)) M (cond (ltZ x (pos 0)) (pos 0) x) ≡ clip M x
+unfolding clip
+clip-steps m M x h = go (ltZ x (pos 0)) M h
+  where
+    go : (t : Bool) (M : ℤ) → inside (pos m) M ≡ true → cond (ltZ M (cond t (pos 0) x)) M (cond t (pos 0) x) ≡ cond t (pos 0) (cond (ltZ M x) M x)
+    go false M h = refl
+    go true (pos n) h = rw (le-ltb n 0 (omega arith))
+    go true (negsuc n) h = absurd (subst T (sym (inside-neg m n h)) tt)
 
 -- ---- a list lent from s on
 abbrev pub rest : ℕ → List ℤ → List ℤ

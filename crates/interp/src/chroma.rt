@@ -19,6 +19,7 @@ fn chroma_at(list: &[i32], i: usize, g: i32, f: i32, m: i32) -> f32
     value::chroma_sample(g, f, list[i], list[i + 1], m)
 }
 
+// From the last store to the first, unlike luma's: the compiler would join the ends of the two ways, and then make no vectors of either.
 fn chroma_quad(list: &[i32], g: i32, f: i32, m: i32, row: &mut [f32])
     requires { ⌜ (length (now row) ≡ 4) × (5 ≤ length (now list)) × Edge 4095 5 (now list) ⌝ }
     requires { ⌜ (natAbs g ≤ 32) × (natAbs f ≤ 32) × (inside (pos 4095) m ≡ true) ⌝ }
@@ -28,10 +29,10 @@ fn chroma_quad(list: &[i32], g: i32, f: i32, m: i32, row: &mut [f32])
     let y = chroma_at(list, 1, g, f, m);
     let z = chroma_at(list, 2, g, f, m);
     let u = chroma_at(list, 3, g, f, m);
-    row[0] = x;
-    row[1] = y;
-    row[2] = z;
     row[3] = u;
+    row[2] = z;
+    row[1] = y;
+    row[0] = x;
 }
 
 fn chroma_long(list: &[i32], g: i32, f: i32, m: i32, row: &mut [f32])

@@ -1,22 +1,26 @@
 // One sample: its taps, and the clip to 0..m.
 ghost use mathlib.Core.Path.{_≡_};
-ghost use mathlib.Core.Bool.{true};
+ghost use mathlib.Core.Bool.{true, cond};
 ghost use Prim.Native.Nat.{_≤_};
 ghost use lib.IntN.{pos, natAbs};
 ghost use Rattle.zint.specs.Range.{inside};
 ghost use Rattle.lists.specs.Block.{sample};
 ghost use Rattle.interp.specs.Interp.{clip, taps4, taps2, Taps};
 
+// One of two, without a branch.
+fn either(first: bool, a: i32, b: i32) -> i32
+    ensures { λ r. ⌜ r ≡ cond first a b ⌝ }
+{
+    if first { a } else { b }
+}
+
+// The larger of x and 0, and then the smaller of that and m: two steps that the processor has for four numbers at once.
 fn clipped(x: i32, m: i32) -> i32
+    requires { ⌜ inside (pos 4095) m ≡ true ⌝ }
     ensures { λ r. ⌜ r ≡ clip m x ⌝ }
 {
-    if x < 0 {
-        0
-    } else if m < x {
-        m
-    } else {
-        x
-    }
+    let y = either(x < 0, 0, x);
+    either(m < y, m, y)
 }
 
 fn four(f0: i32, f1: i32, f2: i32, f3: i32, a: i32, b: i32, c: i32, d: i32) -> i32

@@ -8,8 +8,13 @@ use Rattle.line.specs.Along.{along}
 use Rattle.edges.specs.Behind.{aboveBehind, leftBehind, cornerBehind}
 use Rattle.paeth.specs.Paeth.{paeth}
 use Rattle.smooth.specs.Smooth.{log2, scale, weight, blend}
+use Rattle.interp.specs.Interp.{clip, taps2, between}
+use Rattle.filter.specs.Strength.{strength}
+use Rattle.filter.specs.Filter.{edge, filtered, cornerOf}
+use Rattle.zones.specs.Zones.{along as alongEdge, zone2}
+use Rattle.directional.specs.Directional.{isDown, isAcross}
 use Rattle.paper.specs.Paper.{given, paper}
 
 pub as-on-paper : given ≡ paper
-unfolding given paper paeth blend log2 scale weight trailingZeros tab reading ofBits add toUnsigned aboveBehind leftBehind cornerBehind along
+unfolding given paper paeth blend log2 scale weight trailingZeros tab reading ofBits add toUnsigned aboveBehind leftBehind cornerBehind along isDown isAcross alongEdge zone2 filtered strength edge cornerOf between clip taps2
 as-on-paper = refl

@@ -1,7 +1,7 @@
--- "Numbers on paper" of document 01, cases 1 to 8: what the definitions give, and what the paper has, case by case in the same order.
-use mathlib.Core.Bool.{false}
+-- "Numbers on paper" of document 01, cases 1 to 11: what the definitions give, and what the paper has, case by case in the same order.
+use mathlib.Core.Bool.{true, false}
 use mathlib.Core.List.{List, [], _∷_}
-use Prim.Native.Nat.{ℕ}
+use Prim.Native.Nat.{ℕ, _+_, _/_, _%_}
 use lib.IntN.{ℤ, pos}
 use lib.Ieee.{Float, binary32, ofBits}
 use Rattle.lists.specs.Fill.{tab}
@@ -11,6 +11,7 @@ use Rattle.edges.specs.Refs.{valueOf}
 use Rattle.edges.specs.declared.spec.IntraRefSpec.{IntraRefSpec}
 use Rattle.paeth.specs.Paeth.{paeth}
 use Rattle.smooth.specs.Smooth.{smoothVAt}
+use Rattle.directional.specs.Directional.{directionalAt}
 
 -- smooth_v at B 4, where all entries above are t and all at the left e: row r of the first column
 abbrev smoothV4 : ℕ → ℕ → ℕ → ℤ
@@ -32,6 +33,14 @@ alone base = record {
   base = base;
 }
 
+-- a direction at an angle, of chroma, without a filter, at B 4 and D 8, with both neighbours there: the sample at row r and column c
+abbrev chroma4 : ℕ → List ℤ → List ℤ → ℤ → ℕ → ℕ → ℤ
+chroma4 angle above left k = directionalAt 4 4 (pos 255) true true false false false 4 4 angle above left k
+
+-- eight entries from n on
+abbrev from : ℕ → List ℤ
+from n = tab 8 (λ i. pos (n + i))
+
 unfoldable pub given : List (List ℤ)
 given =
     -- 1 to 3: Paeth of l, t, k
@@ -46,7 +55,13 @@ given =
     (pos (reading (ofBits binary32 0x3eff_ffff)) ∷ []) ∷
     (pos (reading (ofBits binary32 0x42ff_0000)) ∷ []) ∷
     -- 8: no neighbours, base 128: above, left, corner
-    (valueOf 4 [] (aboveBehind (alone 128) 0) ∷ valueOf 4 [] (leftBehind (alone 128) 0) ∷ valueOf 4 [] (cornerBehind (alone 128)) ∷ []) ∷ []
+    (valueOf 4 [] (aboveBehind (alone 128) 0) ∷ valueOf 4 [] (leftBehind (alone 128) 0) ∷ valueOf 4 [] (cornerBehind (alone 128)) ∷ []) ∷
+    -- 9: angle 45, where above[i] is i: all rows, one after the other
+    tab 16 (λ i. chroma4 45 (from 0) (from 100) (pos 99) (i / 4) (i % 4)) ∷
+    -- 10: angle 135: the four samples with x = y, where the corner is 99
+    tab 4 (λ i. chroma4 135 (from 0) (from 100) (pos 99) i i) ∷
+    -- 11: angle 67, above0 10, above1 42: the first sample
+    (chroma4 67 (pos 10 ∷ pos 42 ∷ from 50) (from 100) (pos 99) 0 0 ∷ []) ∷ []
 
 unfoldable pub paper : List (List ℤ)
 paper =
@@ -57,4 +72,7 @@ paper =
     (pos 30 ∷ []) ∷
     (pos 1 ∷ []) ∷
     (pos 128 ∷ []) ∷
-    (pos 127 ∷ pos 129 ∷ pos 128 ∷ []) ∷ []
+    (pos 127 ∷ pos 129 ∷ pos 128 ∷ []) ∷
+    (pos 1 ∷ pos 2 ∷ pos 3 ∷ pos 4 ∷ pos 2 ∷ pos 3 ∷ pos 4 ∷ pos 5 ∷ pos 3 ∷ pos 4 ∷ pos 5 ∷ pos 6 ∷ pos 4 ∷ pos 5 ∷ pos 6 ∷ pos 7 ∷ []) ∷
+    (pos 99 ∷ pos 99 ∷ pos 99 ∷ pos 99 ∷ []) ∷
+    (pos 22 ∷ []) ∷ []

@@ -7,7 +7,7 @@ use lib.IntN.{pos}
 use lib.ListN.{length, getD, length-set}
 use mir.Facts.{toZ-ofZ}
 use Rattle.zint.specs.Range.{Edge}
-use Rattle.lists.proofs.Block.{four-stores}
+use Rattle.lists.proofs.Block.{four-stores-back}
 use Rattle.interp.proofs.chroma.chroma_quad.Statement.{statement}
 use Rattle.interp.proofs.chroma.chroma_quad.Tie as tie
 
@@ -54,7 +54,7 @@ returns : tie.Need-returns
 returns c =
     let a = c .before .before .before in
     let s = a .before .before in
-    four-stores _ (s .args .row .now) _ _ _ _ (s .pre .0 .0)
+    four-stores-back _ (s .args .row .now) _ _ _ _ (s .pre .0 .0)
     (simp (toZ-ofZ, s .fits .g, s .fits .f, s .fits .m) at (a .chroma-at .ensures))
     (simp (toZ-ofZ, s .fits .g, s .fits .f, s .fits .m) at (c .before .before .chroma-at2 .ensures))
     (simp (toZ-ofZ, s .fits .g, s .fits .f, s .fits .m) at (c .before .chroma-at3 .ensures))
