@@ -3,7 +3,7 @@ use crate::room;
 use numbers::answer::Answer;
 
 // Whether two lists begin with the same n samples.
-fn same_samples(a: &[f32], b: &[f32], n: usize) -> bool {
+pub fn same_samples(a: &[f32], b: &[f32], n: usize) -> bool {
     if a.len() < n {
         return false;
     }

@@ -1,5 +1,6 @@
 // A file of the list: each line that is no comment is a case.
 use crate::case;
+use crate::directed;
 use crate::refs;
 
 pub struct Tally {
@@ -25,10 +26,10 @@ impl Tally {
 
 // Whether the case at a place agrees, whose letter stands before it.
 fn agrees(s: &[u8], at: usize, letter: u8) -> bool {
-    if letter == b'R' {
-        refs::agrees(s, at)
-    } else {
-        case::agrees(s, at, letter)
+    match letter {
+        b'R' => refs::agrees(s, at),
+        b'D' => directed::agrees(s, at),
+        _ => case::agrees(s, at, letter),
     }
 }
 

@@ -1,5 +1,6 @@
 // Replays the list of the original's answers, data/*.txt (oracle/record made it), and prints how many cases there are and how many differ.
 mod case;
+mod directed;
 mod list;
 mod refs;
 mod room;
