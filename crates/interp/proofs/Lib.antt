@@ -2,3 +2,4 @@
 pub mod Laws
 pub mod Taps
 pub mod Flat
+pub mod Four

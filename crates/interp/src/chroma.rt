@@ -1,4 +1,4 @@
-// Rows of chroma: sample i is from the entries i and i + 1 of a list. A row of four has its own way, without a loop.
+// Rows by two taps: sample i is from the entries i and i + 1 of a list.
 use crate::value;
 ghost use mathlib.Core.Path.{_≡_};
 ghost use mathlib.Core.Bool.{true};
@@ -19,23 +19,7 @@ fn chroma_at(list: &[i32], i: usize, g: i32, f: i32, m: i32) -> f32
     value::chroma_sample(g, f, list[i], list[i + 1], m)
 }
 
-// From the last store to the first, unlike luma's: the compiler would join the ends of the two ways, and then make no vectors of either.
-fn chroma_quad(list: &[i32], g: i32, f: i32, m: i32, row: &mut [f32])
-    requires { ⌜ (length (now row) ≡ 4) × (5 ≤ length (now list)) × Edge 4095 5 (now list) ⌝ }
-    requires { ⌜ (natAbs g ≤ 32) × (natAbs f ≤ 32) × (inside (pos 4095) m ≡ true) ⌝ }
-    ensures { λ _. ⌜ now (row .exit) ≡ tab (length (now (row .entry))) (λ i. sample (chroma m g f (λ k. getD (now (list .entry)) k (pos 0)) i)) ⌝ }
-{
-    let x = chroma_at(list, 0, g, f, m);
-    let y = chroma_at(list, 1, g, f, m);
-    let z = chroma_at(list, 2, g, f, m);
-    let u = chroma_at(list, 3, g, f, m);
-    row[3] = u;
-    row[2] = z;
-    row[1] = y;
-    row[0] = x;
-}
-
-fn chroma_long(list: &[i32], g: i32, f: i32, m: i32, row: &mut [f32])
+pub fn chroma_long(list: &[i32], g: i32, f: i32, m: i32, row: &mut [f32])
     requires { ⌜ (length (now row) + 1 ≤ length (now list)) × Edge 4095 (length (now row) + 1) (now list) ⌝ }
     requires { ⌜ (natAbs g ≤ 32) × (natAbs f ≤ 32) × (inside (pos 4095) m ≡ true) ⌝ }
     ensures { λ _. ⌜ now (row .exit) ≡ tab (length (now (row .entry))) (λ i. sample (chroma m g f (λ k. getD (now (list .entry)) k (pos 0)) i)) ⌝ }
@@ -44,18 +28,5 @@ fn chroma_long(list: &[i32], g: i32, f: i32, m: i32, row: &mut [f32])
     while i < row.len() {
         row[i] = chroma_at(list, i, g, f, m);
         i += 1;
-    }
-}
-
-// A row of any length.
-pub fn chroma_row(list: &[i32], g: i32, f: i32, m: i32, row: &mut [f32])
-    requires { ⌜ (length (now row) + 1 ≤ length (now list)) × Edge 4095 (length (now row) + 1) (now list) ⌝ }
-    requires { ⌜ (natAbs g ≤ 32) × (natAbs f ≤ 32) × (inside (pos 4095) m ≡ true) ⌝ }
-    ensures { λ _. ⌜ now (row .exit) ≡ tab (length (now (row .entry))) (λ i. sample (chroma m g f (λ k. getD (now (list .entry)) k (pos 0)) i)) ⌝ }
-{
-    if row.len() == 4 {
-        chroma_quad(list, g, f, m, row);
-    } else {
-        chroma_long(list, g, f, m, row);
     }
 }

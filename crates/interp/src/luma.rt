@@ -1,4 +1,4 @@
-// Rows of luma: sample i is from the entries i .. i + 3 of a list. A row of four has its own way, without a loop.
+// Rows by four taps: sample i is from the entries i .. i + 3 of a list. A row of four has its own way, without a loop.
 use crate::value;
 ghost use mathlib.Core.Path.{_≡_};
 ghost use mathlib.Core.Bool.{true};
@@ -29,7 +29,7 @@ fn luma_at(list: &[i32], i: usize, f0: i32, f1: i32, f2: i32, f3: i32, m: i32) -
     )
 }
 
-fn luma_quad(list: &[i32], f0: i32, f1: i32, f2: i32, f3: i32, m: i32, row: &mut [f32])
+pub fn luma_quad(list: &[i32], f0: i32, f1: i32, f2: i32, f3: i32, m: i32, row: &mut [f32])
     requires { ⌜ (length (now row) ≡ 4) × (7 ≤ length (now list)) × Edge 4095 7 (now list) ⌝ }
     requires { ⌜ Taps f0 f1 f2 f3 × (inside (pos 4095) m ≡ true) ⌝ }
     ensures { λ _. ⌜ now (row .exit) ≡ tab (length (now (row .entry))) (λ i. sample (luma m f0 f1 f2 f3 (λ k. getD (now (list .entry)) k (pos 0)) i)) ⌝ }
@@ -44,7 +44,7 @@ fn luma_quad(list: &[i32], f0: i32, f1: i32, f2: i32, f3: i32, m: i32, row: &mut
     row[3] = u;
 }
 
-fn luma_long(list: &[i32], f0: i32, f1: i32, f2: i32, f3: i32, m: i32, row: &mut [f32])
+pub fn luma_long(list: &[i32], f0: i32, f1: i32, f2: i32, f3: i32, m: i32, row: &mut [f32])
     requires { ⌜ (length (now row) + 3 ≤ length (now list)) × Edge 4095 (length (now row) + 3) (now list) ⌝ }
     requires { ⌜ Taps f0 f1 f2 f3 × (inside (pos 4095) m ≡ true) ⌝ }
     ensures { λ _. ⌜ now (row .exit) ≡ tab (length (now (row .entry))) (λ i. sample (luma m f0 f1 f2 f3 (λ k. getD (now (list .entry)) k (pos 0)) i)) ⌝ }
@@ -53,18 +53,5 @@ fn luma_long(list: &[i32], f0: i32, f1: i32, f2: i32, f3: i32, m: i32, row: &mut
     while i < row.len() {
         row[i] = luma_at(list, i, f0, f1, f2, f3, m);
         i += 1;
-    }
-}
-
-// A row of any length.
-pub fn luma_row(list: &[i32], f0: i32, f1: i32, f2: i32, f3: i32, m: i32, row: &mut [f32])
-    requires { ⌜ (length (now row) + 3 ≤ length (now list)) × Edge 4095 (length (now row) + 3) (now list) ⌝ }
-    requires { ⌜ Taps f0 f1 f2 f3 × (inside (pos 4095) m ≡ true) ⌝ }
-    ensures { λ _. ⌜ now (row .exit) ≡ tab (length (now (row .entry))) (λ i. sample (luma m f0 f1 f2 f3 (λ k. getD (now (list .entry)) k (pos 0)) i)) ⌝ }
-{
-    if row.len() == 4 {
-        luma_quad(list, f0, f1, f2, f3, m, row);
-    } else {
-        luma_long(list, f0, f1, f2, f3, m, row);
     }
 }

@@ -69,17 +69,6 @@ module _ {A : Type 0} where
   four-stores f (a ∷ b ∷ c ∷ []) x y z u n p q r s = absurd (omega arith)
   four-stores f (a ∷ b ∷ c ∷ d ∷ e ∷ xs) x y z u n p q r s = absurd (omega arith)
 
-  -- and so they do from the last on
-  pub four-stores-back : (f : ℕ → A) (xs : List A) (x y z u : A) → length xs ≡ 4 → x ≡ f 0 → y ≡ f 1 → z ≡ f 2 → u ≡ f 3
-      → set (set (set (set xs 3 u) 2 z) 1 y) 0 x ≡ tab (length xs) f
-  unfolding tab
-  four-stores-back f (a ∷ b ∷ c ∷ d ∷ []) x y z u n p q r s = λ j. p j ∷ q j ∷ r j ∷ s j ∷ []
-  four-stores-back f [] x y z u n p q r s = absurd (omega arith)
-  four-stores-back f (a ∷ []) x y z u n p q r s = absurd (omega arith)
-  four-stores-back f (a ∷ b ∷ []) x y z u n p q r s = absurd (omega arith)
-  four-stores-back f (a ∷ b ∷ c ∷ []) x y z u n p q r s = absurd (omega arith)
-  four-stores-back f (a ∷ b ∷ c ∷ d ∷ e ∷ xs) x y z u n p q r s = absurd (omega arith)
-
 -- ---- what a contract's `block` says
 module _ (w h : ℕ) (p : ℕ → ℕ → ℤ) (out : List Float) where
   pub block-length : h * w ≤ length out → length (block w h p out) ≡ length out

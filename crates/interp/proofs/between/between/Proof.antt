@@ -16,8 +16,10 @@ use Rattle.lists.specs.Block.{sample}
 use Rattle.lists.proofs.Fill.{tab-same, rest-length}
 use Rattle.interp.specs.F4.{f4}
 use Rattle.interp.specs.Interp.{Taps, luma, chroma, between}
+use Rattle.interp.specs.Quads.{tapped}
 use Rattle.interp.proofs.Laws.{rest, rest-edge, luma-rest, chroma-rest, between-luma, between-chroma}
 use Rattle.interp.proofs.Taps.{f4-taps}
+use Rattle.interp.proofs.Four.{tapped-is}
 use Rattle.interp.proofs.between.between.Statement.{statement}
 use Rattle.interp.proofs.between.between.Tie as tie
 
@@ -48,39 +50,62 @@ module _ (s : tie.Start) where
   f-is : toZ w32 f ≡ pos f
   f-is = toZ-pos w32 {n = f} (omega arith)
 
+mul-between-quad : tie.Need-mul-between-quad
+mul-between-quad c = search needs
+
+sub-between-quad : tie.Need-sub-between-quad
+sub-between-quad c = search needs
+
+part-between-quad-start : tie.Need-part-between-quad-start
+part-between-quad-start c = search needs
+
+part-between-quad-end : tie.Need-part-between-quad-end
+part-between-quad-end c = search needs
+
+between-quad-requires : tie.Need-between-quad-requires
+between-quad-requires c κs =
+    let g = c .before .before in
+    let s = g .before .before in
+    let b = s .args .q / 64 in
+    let xs = s .args .list .now in
+    simp (toZ-ofZ, s .fits .m) (
+      (g .if1 .taken, omega (arith, rest-length b xs, g .if1 .taken), rest-edge 4095 (b + length (s .args .row .now) + 3) 7 b xs (s .pre .0 .0) (omega (arith, g .if1 .taken)) (s .pre .0 .1)),
+      (omega arith, s .pre .1 .0, s .pre .1 .1),
+    )
+
 mul-t : tie.Need-mul-t
 mul-t c = search needs
 
 element-copy-out-t : tie.Need-element-copy-out-t
 element-copy-out-t c = search needs
 
-mul-luma-row : tie.Need-mul-luma-row
-mul-luma-row c = search needs
+mul-luma-long : tie.Need-mul-luma-long
+mul-luma-long c = search needs
 
-sub-luma-row : tie.Need-sub-luma-row
-sub-luma-row c = search needs
+sub-luma-long : tie.Need-sub-luma-long
+sub-luma-long c = search needs
 
-part-luma-row-start : tie.Need-part-luma-row-start
-part-luma-row-start c = search needs
+part-luma-long-start : tie.Need-part-luma-long-start
+part-luma-long-start c = search needs
 
-part-luma-row-end : tie.Need-part-luma-row-end
-part-luma-row-end c = search needs
+part-luma-long-end : tie.Need-part-luma-long-end
+part-luma-long-end c = search needs
 
-array-copy-out-luma-row : tie.Need-array-copy-out-luma-row
-array-copy-out-luma-row c = search needs
+array-copy-out-luma-long : tie.Need-array-copy-out-luma-long
+array-copy-out-luma-long c = search needs
 
-array-copy-out-luma-row-2 : tie.Need-array-copy-out-luma-row-2
-array-copy-out-luma-row-2 c = search needs
+array-copy-out-luma-long-2 : tie.Need-array-copy-out-luma-long-2
+array-copy-out-luma-long-2 c = search needs
 
-array-copy-out-luma-row-3 : tie.Need-array-copy-out-luma-row-3
-array-copy-out-luma-row-3 c = search needs
+array-copy-out-luma-long-3 : tie.Need-array-copy-out-luma-long-3
+array-copy-out-luma-long-3 c = search needs
 
-array-copy-out-luma-row-4 : tie.Need-array-copy-out-luma-row-4
-array-copy-out-luma-row-4 c = search needs
+array-copy-out-luma-long-4 : tie.Need-array-copy-out-luma-long-4
+array-copy-out-luma-long-4 c = search needs
 
-luma-row-requires : tie.Need-luma-row-requires
-luma-row-requires c κs =
-    let s = c .before .before .before .before .before .before .before .before .before in
+luma-long-requires : tie.Need-luma-long-requires
+luma-long-requires c κs =
+    let s = c .before .before .before .before .before .before .before .before .before .before in
     let t = taps s in
     let b = s .args .q / 64 in
     let xs = s .args .list .now in
@@ -92,30 +117,30 @@ luma-row-requires c κs =
 add-from : tie.Need-add-from
 add-from c = search needs
 
-mul-chroma-row : tie.Need-mul-chroma-row
-mul-chroma-row c = search needs
+mul-chroma-long : tie.Need-mul-chroma-long
+mul-chroma-long c = search needs
 
-sub-chroma-row : tie.Need-sub-chroma-row
-sub-chroma-row c = search needs
+sub-chroma-long : tie.Need-sub-chroma-long
+sub-chroma-long c = search needs
 
-part-chroma-row-start : tie.Need-part-chroma-row-start
-part-chroma-row-start c = search needs
+part-chroma-long-start : tie.Need-part-chroma-long-start
+part-chroma-long-start c = search needs
 
-part-chroma-row-end : tie.Need-part-chroma-row-end
-part-chroma-row-end c = search needs
+part-chroma-long-end : tie.Need-part-chroma-long-end
+part-chroma-long-end c = search needs
 
-sub-chroma-row-2 : tie.Need-sub-chroma-row-2
-sub-chroma-row-2 c = search needs
+sub-chroma-long-2 : tie.Need-sub-chroma-long-2
+sub-chroma-long-2 c = search needs
 
-cast-chroma-row : tie.Need-cast-chroma-row
-cast-chroma-row c = search needs
+cast-chroma-long : tie.Need-cast-chroma-long
+cast-chroma-long c = search needs
 
-cast-chroma-row-2 : tie.Need-cast-chroma-row-2
-cast-chroma-row-2 c = search needs
+cast-chroma-long-2 : tie.Need-cast-chroma-long-2
+cast-chroma-long-2 c = search needs
 
-chroma-row-requires : tie.Need-chroma-row-requires
-chroma-row-requires c κs =
-    let s = c .before .before .before .before in
+chroma-long-requires : tie.Need-chroma-long-requires
+chroma-long-requires c κs =
+    let s = c .before .before .before .before .before in
     let b = s .args .q / 64 + 1 in
     let xs = s .args .list .now in
     simp (toZ-ofZ, s .fits .m, g-is s, f-is s) (
@@ -128,53 +153,78 @@ same-length c = search needs
 
 returns : tie.Need-returns
 returns c =
-    let s = c .before .before .before .before .before .before .before .before .before .before .before .before in
-    let t = taps s in
+    let u = c .before .before in
+    let g = u .before .before .before in
+    let s = g .before .before in
     let L = length (s .args .row .now) in
     let q = s .args .q in
-    c .before .before .luma-row .ensures
-    ∙ (λ j. tab L (λ i. sample (luma (toZ-ofZ (s .fits .m) j) ((tap-back s 0 (t .t0) ∙ tap-is s 0) j) ((tap-back s 1 (t .t1) ∙ tap-is s 1) j) ((tap-back s 2 (t .t2) ∙ tap-is s 2) j) ((tap-back s 3 (t .t3) ∙ tap-is s 3) j) (λ k. getD (rest (q / 64) (s .args .list .now)) k (pos 0)) i)))
-    ∙ tab-same L _ _ (λ i h. ap sample (luma-rest (s .args .list .now) (s .args .m) _ _ _ _ (q / 64) i (q / 64 + i) (omega arith) refl ∙ between-luma (s .args .m) (p s) q i))
-    ∙ ap (λ (b : Bool). tab L (λ i. sample (between b (s .args .m) (p s) (q + 64 * i)))) (sym (c .before .before .before .before .before .before .before .before .before .before .if1 .taken))
+    u .between-quad .ensures
+    ∙ (λ j. tab L (λ i. sample (tapped (s .args .lum) (toZ-ofZ (s .fits .m) j) (q % 64 / 2) (λ k. getD (rest (q / 64) (s .args .list .now)) k (pos 0)) i)))
+    ∙ tab-same L _ _ (λ i h. ap sample (luma-rest (s .args .list .now) (s .args .m) _ _ _ _ (q / 64) i (q / 64 + i) (omega arith) refl ∙ tapped-is (s .args .lum) (s .args .m) (p s) q i (λ k l m. s .pre .0 .1 k (omega arith))))
 
 same-length-2 : tie.Need-same-length-2
 same-length-2 c = search needs
 
 returns-2 : tie.Need-returns-2
 returns-2 c =
-    let s = c .before .before .before .before .before .before .before in
+    let u = c .before .before in
+    let e = u .before .before .before .before .before .before .before .before in
+    let s = e .before .before .before in
+    let t = taps s in
     let L = length (s .args .row .now) in
     let q = s .args .q in
-    c .before .before .chroma-row .ensures
+    u .luma-long .ensures
+    ∙ (λ j. tab L (λ i. sample (luma (toZ-ofZ (s .fits .m) j) ((tap-back s 0 (t .t0) ∙ tap-is s 0) j) ((tap-back s 1 (t .t1) ∙ tap-is s 1) j) ((tap-back s 2 (t .t2) ∙ tap-is s 2) j) ((tap-back s 3 (t .t3) ∙ tap-is s 3) j) (λ k. getD (rest (q / 64) (s .args .list .now)) k (pos 0)) i)))
+    ∙ tab-same L _ _ (λ i h. ap sample (luma-rest (s .args .list .now) (s .args .m) _ _ _ _ (q / 64) i (q / 64 + i) (omega arith) refl ∙ between-luma (s .args .m) (p s) q i))
+    ∙ ap (λ (b : Bool). tab L (λ i. sample (between b (s .args .m) (p s) (q + 64 * i)))) (sym (e .if2 .taken))
+
+same-length-3 : tie.Need-same-length-3
+same-length-3 c = search needs
+
+returns-3 : tie.Need-returns-3
+returns-3 c =
+    let u = c .before .before in
+    let e = u .before .before .before in
+    let s = e .before .before .before in
+    let L = length (s .args .row .now) in
+    let q = s .args .q in
+    u .chroma-long .ensures
     ∙ (λ j. tab L (λ i. sample (chroma (toZ-ofZ (s .fits .m) j) (g-is s j) (f-is s j) (λ k. getD (rest (q / 64 + 1) (s .args .list .now)) k (pos 0)) i)))
     ∙ tab-same L _ _ (λ i h. ap sample (chroma-rest (s .args .list .now) (s .args .m) _ _ (q / 64 + 1) i (q / 64 + 1 + i) (omega arith) refl ∙ between-chroma (s .args .m) (p s) q i))
-    ∙ ap (λ (b : Bool). tab L (λ i. sample (between b (s .args .m) (p s) (q + 64 * i)))) (sym (c .before .before .before .before .before .if1 .left))
+    ∙ ap (λ (b : Bool). tab L (λ i. sample (between b (s .args .m) (p s) (q + 64 * i)))) (sym (e .if2 .left))
 
 pub between-spec : {M : Type 1} → statement M
 between-spec =
     tie.close
     (tie.spec
+    mul-between-quad
+    sub-between-quad
+    part-between-quad-start
+    part-between-quad-end
+    between-quad-requires
     mul-t
     element-copy-out-t
-    mul-luma-row
-    sub-luma-row
-    part-luma-row-start
-    part-luma-row-end
-    array-copy-out-luma-row
-    array-copy-out-luma-row-2
-    array-copy-out-luma-row-3
-    array-copy-out-luma-row-4
-    luma-row-requires
+    mul-luma-long
+    sub-luma-long
+    part-luma-long-start
+    part-luma-long-end
+    array-copy-out-luma-long
+    array-copy-out-luma-long-2
+    array-copy-out-luma-long-3
+    array-copy-out-luma-long-4
+    luma-long-requires
     add-from
-    mul-chroma-row
-    sub-chroma-row
-    part-chroma-row-start
-    part-chroma-row-end
-    sub-chroma-row-2
-    cast-chroma-row
-    cast-chroma-row-2
-    chroma-row-requires
+    mul-chroma-long
+    sub-chroma-long
+    part-chroma-long-start
+    part-chroma-long-end
+    sub-chroma-long-2
+    cast-chroma-long
+    cast-chroma-long-2
+    chroma-long-requires
     same-length
     returns
     same-length-2
-    returns-2)
+    returns-2
+    same-length-3
+    returns-3)
