@@ -1,19 +1,24 @@
--- Four samples at once: chroma's taps in 128ths give what its two taps give, and all taps are small. Assumes nothing.
+-- The tables of taps: chroma's in 128ths give what its two taps give, and all taps are small. Assumes nothing.
 use mathlib.Core.Bool.{Bool, true, false}
-use mathlib.Core.Path.{_≡_, sym, _∙_, ap}
+use mathlib.Core.Path.{_≡_, sym, _∙_, ap, subst}
+use mathlib.Core.List.{List, []}
 use Prim.Native.Nat.{ℕ, _≤_, _<_, _+_, _-_, _*_, _/_}
 use native.Mathlib.Omega.{arith}
 use lib.IntN.{ℤ, pos, natAbs}
+use lib.ListN.{getD}
 use Rattle.zint.specs.Range.{inside}
 use Rattle.zint.proofs.Range.{inside-pos}
-use Rattle.interp.specs.Interp.{clip, taps4, taps2, phase, between, Taps}
-use Rattle.interp.specs.Quads.{tap, tapped}
+use Rattle.lists.proofs.Fill.{tab-at}
+use Rattle.interp.specs.Interp.{clip, taps4, taps2, luma, phase, between, Taps}
+use Rattle.interp.specs.Quads.{twos, tableOf, tap, tapped}
 use Rattle.interp.proofs.Laws.{between-luma, between-chroma}
 use Rattle.interp.proofs.Taps.{f4-taps}
 
-pub tap-small : (lum : Bool) (f : ℕ) → f < 32 → Taps (tap lum f 0) (tap lum f 1) (tap lum f 2) (tap lum f 3)
+pub tap-small : (lum : Bool) (f : ℕ) → f < 32 → Taps (tap (tableOf lum) f 0) (tap (tableOf lum) f 1) (tap (tableOf lum) f 2) (tap (tableOf lum) f 3)
 tap-small true f h = f4-taps f h
-tap-small false f h = record { t0 = omega arith; t1 = omega arith; t2 = omega arith; t3 = omega arith }
+tap-small false f h =
+    subst (λ (l : List ℤ). Taps (getD l 0 (pos 0)) (getD l 1 (pos 0)) (getD l 2 (pos 0)) (getD l 3 (pos 0)))
+    (sym (tab-at 32 twos f [] h)) (record { t0 = omega arith; t1 = omega arith; t2 = omega arith; t3 = omega arith })
 
 -- four times the numerator over four times the denominator
 natural : (f a b c d : ℕ) → f ≤ 32 → taps4 (pos 0) (pos (128 - 4 * f)) (pos (4 * f)) (pos 0) (pos a) (pos b) (pos c) (pos d) ≡ taps2 (pos (32 - f)) (pos f) (pos b) (pos c)
@@ -35,10 +40,11 @@ two-as-four M f a b c d h p q r s =
 
 -- four entries that are samples
 pub tapped-is : (lum : Bool) (M : ℤ) (p : ℕ → ℤ) (q i : ℕ) → ((k : ℕ) → q / 64 + i ≤ k → k < q / 64 + i + 4 → inside (pos 4095) (p k) ≡ true)
-    → tapped lum M (phase q) p (q / 64 + i) ≡ between lum M p (q + 64 * i)
+    → tapped (tableOf lum) M (phase q) p (q / 64 + i) ≡ between lum M p (q + 64 * i)
 tapped-is true M p q i h = between-luma M p q i
 tapped-is false M p q i h =
-    two-as-four M (phase q) (p (q / 64 + i)) (p (q / 64 + i + 1)) (p (q / 64 + i + 2)) (p (q / 64 + i + 3)) (omega arith)
+    ap (λ (l : List ℤ). luma M (getD l 0 (pos 0)) (getD l 1 (pos 0)) (getD l 2 (pos 0)) (getD l 3 (pos 0)) p (q / 64 + i)) (tab-at 32 twos (phase q) [] (omega arith))
+    ∙ two-as-four M (phase q) (p (q / 64 + i)) (p (q / 64 + i + 1)) (p (q / 64 + i + 2)) (p (q / 64 + i + 3)) (omega arith)
     (h (q / 64 + i) (omega arith) (omega arith)) (h (q / 64 + i + 1) (omega arith) (omega arith)) (h (q / 64 + i + 2) (omega arith) (omega arith)) (h (q / 64 + i + 3) (omega arith) (omega arith))
     ∙ (λ j. clip M (taps2 (pos (32 - phase q)) (pos (phase q)) (p (first j)) (p (second j))))
     ∙ between-chroma M p q i

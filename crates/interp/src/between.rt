@@ -9,50 +9,29 @@ ghost use lib.ListN.{length, getD};
 ghost use Rattle.zint.specs.Range.{inside, Edge};
 ghost use Rattle.lists.specs.Fill.{tab};
 ghost use Rattle.lists.specs.Block.{sample};
-ghost use Rattle.interp.specs.F4.{filters as filters4};
-ghost use Rattle.interp.specs.Interp.{between as at};
-ghost use Rattle.interp.specs.Quads.{tapsOf, tapped};
-
-// The taps of a phase. Chroma's two are told in 128ths, so that four samples go the same way as luma's: without a branch, and as one vector.
-fn taps_of(lum: bool, filters: &[[i32; 4]; 32], f: usize) -> [i32; 4]
-    requires { ⌜ (f < 32) × (now filters ≡ filters4) ⌝ }
-    ensures { λ r. ⌜ r ≡ tapsOf lum f ⌝ }
-{
-    if lum {
-        filters[f]
-    } else {
-        let c = 4 * f;
-        [0, (128 - c) as i32, c as i32, 0]
-    }
-}
+ghost use Rattle.interp.specs.Interp.{between as at, Taps};
+ghost use Rattle.interp.specs.Quads.{tableOf, tap, tapped};
 
 // Four samples.
-fn between_quad(
-    list: &[i32],
-    lum: bool,
-    filters: &[[i32; 4]; 32],
-    f: usize,
-    m: i32,
-    row: &mut [f32],
-)
+fn between_quad(list: &[i32], filters: &[[i32; 4]; 32], f: usize, m: i32, row: &mut [f32])
     requires { ⌜ (length (now row) ≡ 4) × (7 ≤ length (now list)) × Edge 4095 7 (now list) ⌝ }
-    requires { ⌜ (f < 32) × (now filters ≡ filters4) × (inside (pos 4095) m ≡ true) ⌝ }
-    ensures { λ _. ⌜ now (row .exit) ≡ tab (length (now (row .entry))) (λ i. sample (tapped lum m f (λ k. getD (now (list .entry)) k (pos 0)) i)) ⌝ }
+    requires { ⌜ (f < 32) × Taps (tap (now filters) f 0) (tap (now filters) f 1) (tap (now filters) f 2) (tap (now filters) f 3) × (inside (pos 4095) m ≡ true) ⌝ }
+    ensures { λ _. ⌜ now (row .exit) ≡ tab (length (now (row .entry))) (λ i. sample (tapped (now (filters .entry)) m f (λ k. getD (now (list .entry)) k (pos 0)) i)) ⌝ }
 {
-    let t = taps_of(lum, filters, f);
+    let t = filters[f];
     luma::luma_quad(list, t[0], t[1], t[2], t[3], m, row);
 }
 
-// Sample i is at q + 64 i. The table is lent, so that a block has it written once.
+// Sample i is at q + 64 i. The table is the plane's.
 pub fn between(list: &[i32], lum: bool, filters: &[[i32; 4]; 32], q: usize, m: i32, row: &mut [f32])
     requires { ⌜ (q / 64 + length (now row) + 3 ≤ length (now list)) × Edge 4095 (q / 64 + length (now row) + 3) (now list) ⌝ }
-    requires { ⌜ (now filters ≡ filters4) × (inside (pos 4095) m ≡ true) ⌝ }
+    requires { ⌜ (now filters ≡ tableOf lum) × (inside (pos 4095) m ≡ true) ⌝ }
     ensures { λ _. ⌜ now (row .exit) ≡ tab (length (now (row .entry))) (λ i. sample (at lum m (λ k. getD (now (list .entry)) k (pos 0)) (q + 64 * i))) ⌝ }
 {
     let base = q / 64;
     let f = q % 64 / 2;
     if row.len() == 4 {
-        between_quad(&list[base..], lum, filters, f, m, row);
+        between_quad(&list[base..], filters, f, m, row);
     } else if lum {
         let t = filters[f];
         luma::luma_long(&list[base..], t[0], t[1], t[2], t[3], m, row);

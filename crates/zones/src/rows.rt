@@ -1,5 +1,4 @@
 // Zone 1 by rows: row r starts (r + 1) dx 64ths further along the list than the block does.
-use interp::f4::F4;
 ghost use mathlib.Core.Path.{_≡_};
 ghost use mathlib.Core.Bool.{true};
 ghost use Prim.Native.Nat.{_+_, _*_, _/_, _≤_};
@@ -15,7 +14,7 @@ pub fn z1_rows(w: usize, h: usize, lum: bool, dx: usize, m: i32, list: &[i32], o
     requires { ⌜ Holds (h * dx / 64 + w + 7) (now list) ⌝ }
     ensures { λ _. ⌜ now (out .exit) ≡ block w h (ahead lum m dx (now (list .entry))) (now (out .entry)) ⌝ }
 {
-    let filters = F4;
+    let filters = interp::tables::taps_of(lum);
     let mut o = 0;
     let mut q = 256;
     let mut r = 0;

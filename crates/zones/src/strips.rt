@@ -1,6 +1,5 @@
 // Zone 3 by strips of four rows: down a column the base moves by one entry and the phase stays, so that a column of a strip is a row of four samples.
 use crate::spread;
-use interp::f4::F4;
 ghost use mathlib.Core.Path.{_≡_};
 ghost use mathlib.Core.Bool.{true};
 ghost use Prim.Native.Nat.{_+_, _*_, _/_, _≤_};
@@ -9,7 +8,7 @@ ghost use lib.ListN.{length, getD};
 ghost use Rattle.zint.specs.Range.{inside};
 ghost use Rattle.lists.specs.Fill.{filled};
 ghost use Rattle.lists.specs.Block.{rows, sample, block};
-ghost use Rattle.interp.specs.F4.{filters as filters4};
+ghost use Rattle.interp.specs.Quads.{tableOf};
 ghost use Rattle.interp.specs.Interp.{between};
 ghost use Rattle.zones.specs.Listed.{ahead, Holds};
 
@@ -24,7 +23,7 @@ fn z3_columns(
     list: &[i32],
     strip: &mut [f32],
 )
-    requires { ⌜ (w ≤ 64) × (dy ≤ 4096) × (from ≤ 8192) × (w * 4 ≤ length (now strip)) × (inside (pos 4095) m ≡ true) × (now filters ≡ filters4) ⌝ }
+    requires { ⌜ (w ≤ 64) × (dy ≤ 4096) × (from ≤ 8192) × (w * 4 ≤ length (now strip)) × (inside (pos 4095) m ≡ true) × (now filters ≡ tableOf lum) ⌝ }
     requires { ⌜ Holds ((from + w * dy) / 64 + 7) (now list) ⌝ }
     ensures { λ _. ⌜ now (strip .exit) ≡ filled (w * 4) (rows 4 (λ c j. sample (between lum m (λ k. getD (now (list .entry)) k (pos 0)) (from + (c + 1) * dy + 64 * j)))) (now (strip .entry)) ⌝ }
 {
@@ -55,7 +54,7 @@ pub fn z3_strips(
     requires { ⌜ Holds (w * dy / 64 + 4 * n + 7) (now list) ⌝ }
     ensures { λ _. ⌜ now (out .exit) ≡ block w (4 * n) (λ r c. ahead lum m dy (now (list .entry)) c r) (now (out .entry)) ⌝ }
 {
-    let filters = F4;
+    let filters = interp::tables::taps_of(lum);
     let mut from = 256;
     let mut o = 0;
     let mut i = 0;

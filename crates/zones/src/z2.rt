@@ -1,7 +1,6 @@
 // Zone 2 by strips of four rows.
 use crate::split;
 use crate::walk;
-use interp::f4::F4;
 ghost use mathlib.Core.Path.{_≡_};
 ghost use mathlib.Core.Bool.{true};
 ghost use Prim.Native.Nat.{_+_, _*_, _≤_, _<_};
@@ -10,7 +9,7 @@ ghost use lib.ListN.{length};
 ghost use Rattle.zint.specs.Range.{inside};
 ghost use Rattle.lists.specs.Fill.{tab};
 ghost use Rattle.lists.specs.Block.{rows, sample, block};
-ghost use Rattle.interp.specs.F4.{filters as filters4};
+ghost use Rattle.interp.specs.Quads.{tableOf};
 ghost use Rattle.zones.specs.Listed.{either, Holds};
 
 // The strip from row r0 on.
@@ -28,7 +27,7 @@ fn z2_strip(
     out: &mut [f32],
 )
     requires { ⌜ (w ≤ 64) × (r0 ≤ 60) × (0 < dx) × (dx ≤ 4096) × (0 < dy) × (dx * dy ≤ 4096) × (w * 4 ≤ length (now strip)) × (length (now out) ≡ 4 * w) ⌝ }
-    requires { ⌜ (inside (pos 4095) m ≡ true) × (now filters ≡ filters4) × Holds (w + 6) (now top) × Holds (r0 + 10) (now left) ⌝ }
+    requires { ⌜ (inside (pos 4095) m ≡ true) × (now filters ≡ tableOf lum) × Holds (w + 6) (now top) × Holds (r0 + 10) (now left) ⌝ }
     ensures { λ _. ⌜ now (out .exit) ≡ tab (length (now (out .entry))) (rows w (λ j c. sample (either lum m dx dy (now (top .entry)) (now (left .entry)) (r0 + j) c))) ⌝ }
 {
     walk::left_columns(w, r0, lum, filters, dx, dy, m, left, strip);
@@ -52,7 +51,7 @@ pub fn z2_strips(
     requires { ⌜ (inside (pos 4095) m ≡ true) × Holds (w + 6) (now top) × Holds (4 * n + 6) (now left) ⌝ }
     ensures { λ _. ⌜ now (out .exit) ≡ block w (4 * n) (either lum m dx dy (now (top .entry)) (now (left .entry))) (now (out .entry)) ⌝ }
 {
-    let filters = F4;
+    let filters = interp::tables::taps_of(lum);
     let mut r0 = 0;
     let mut o = 0;
     let mut i = 0;

@@ -4,7 +4,7 @@ use Prim.Native.Nat.{ℕ, _≤_, _<_, _+_, _-_, _*_, _/_, _%_}
 use native.Mathlib.Omega.{arith}
 use mathlib.Core.Path.{_≡_, refl, sym, _∙_, ap, subst}
 use mathlib.Core.Bool.{Bool, true, false}
-use mathlib.Core.List.{List, []}
+use mathlib.Core.List.{List}
 use lib.ListN.{length, getD}
 use lib.IntN.{ℤ, pos, natAbs}
 use mir.Syntax.{w32}
@@ -14,12 +14,10 @@ use Rattle.zint.proofs.Bound.{back-abs}
 use Rattle.lists.specs.Fill.{tab}
 use Rattle.lists.specs.Block.{sample}
 use Rattle.lists.proofs.Fill.{tab-same, rest-length}
-use Rattle.interp.specs.F4.{f4}
 use Rattle.interp.specs.Interp.{Taps, luma, chroma, between}
-use Rattle.interp.specs.Quads.{tapped}
-use Rattle.interp.proofs.Laws.{rest, rest-edge, luma-rest, chroma-rest, between-luma, between-chroma}
-use Rattle.interp.proofs.Taps.{f4-taps}
-use Rattle.interp.proofs.Four.{tapped-is}
+use Rattle.interp.specs.Quads.{tap, tapped}
+use Rattle.interp.proofs.Laws.{rest, rest-edge, luma-rest, chroma-rest, between-chroma}
+use Rattle.interp.proofs.Four.{tap-small, tapped-is}
 use Rattle.interp.proofs.between.between.Statement.{statement}
 use Rattle.interp.proofs.between.between.Tie as tie
 
@@ -27,22 +25,27 @@ module _ (s : tie.Start) where
   abbrev f : ℕ
   f = s .args .q % 64 / 2
 
-  abbrev tap : ℕ → ℤ
-  tap k = getD (getD (s .args .filters .now) f []) k (pos 0)
+  abbrev t : ℕ → ℤ
+  t k = tap (s .args .filters .now) f k
 
-  tap-is : (k : ℕ) → tap k ≡ f4 f k
-  tap-is k = ap (λ (l : List (List ℤ)). getD (getD l f []) k (pos 0)) (s .pre .1 .0)
-
-  taps : Taps (tap 0) (tap 1) (tap 2) (tap 3)
+  taps : Taps (t 0) (t 1) (t 2) (t 3)
   taps =
-      subst (λ (l : List (List ℤ)). Taps (getD (getD l f []) 0 (pos 0)) (getD (getD l f []) 1 (pos 0)) (getD (getD l f []) 2 (pos 0)) (getD (getD l f []) 3 (pos 0)))
-      (sym (s .pre .1 .0)) (f4-taps f (omega arith))
+      subst (λ (fs : List (List ℤ)). Taps (tap fs f 0) (tap fs f 1) (tap fs f 2) (tap fs f 3)) (sym (s .pre .1 .0)) (tap-small (s .args .lum) f (omega arith))
 
-  tap-back : (k : ℕ) → natAbs (tap k) ≤ 128 → toZ w32 (ofZ w32 (tap k)) ≡ tap k
-  tap-back k h = back-abs w32 (tap k) (omega arith)
+  tap-back : (k : ℕ) → natAbs (t k) ≤ 128 → toZ w32 (ofZ w32 (t k)) ≡ t k
+  tap-back k h = back-abs w32 (t k) (omega arith)
 
   abbrev p : ℕ → ℤ
   p k = getD (s .args .list .now) k (pos 0)
+
+  -- four taps at the entries of the part of the list from the base on
+  by-four : (i : ℕ) → i < length (s .args .row .now)
+      → tapped (s .args .filters .now) (s .args .m) f (λ k. getD (rest (s .args .q / 64) (s .args .list .now)) k (pos 0)) i ≡ between (s .args .lum) (s .args .m) (p) (s .args .q + 64 * i)
+  by-four i h =
+      let q = s .args .q in
+      luma-rest (s .args .list .now) (s .args .m) _ _ _ _ (q / 64) i (q / 64 + i) (omega arith) refl
+      ∙ ap (λ (fs : List (List ℤ)). tapped fs (s .args .m) f p (q / 64 + i)) (s .pre .1 .0)
+      ∙ tapped-is (s .args .lum) (s .args .m) p q i (λ k l m. s .pre .0 .1 k (omega arith))
 
   g-is : toZ w32 (32 - f) ≡ pos (32 - f)
   g-is = toZ-pos w32 {n = 32 - f} (omega arith)
@@ -70,7 +73,7 @@ between-quad-requires c κs =
     let xs = s .args .list .now in
     simp (toZ-ofZ, s .fits .m) (
       (g .if1 .taken, omega (arith, rest-length b xs, g .if1 .taken), rest-edge 4095 (b + length (s .args .row .now) + 3) 7 b xs (s .pre .0 .0) (omega (arith, g .if1 .taken)) (s .pre .0 .1)),
-      (omega arith, s .pre .1 .0, s .pre .1 .1),
+      (omega arith, taps s, s .pre .1 .1),
     )
 
 mul-t : tie.Need-mul-t
@@ -154,13 +157,11 @@ same-length c = search needs
 returns : tie.Need-returns
 returns c =
     let u = c .before .before in
-    let g = u .before .before .before in
-    let s = g .before .before in
+    let s = u .before .before .before .before .before in
     let L = length (s .args .row .now) in
-    let q = s .args .q in
     u .between-quad .ensures
-    ∙ (λ j. tab L (λ i. sample (tapped (s .args .lum) (toZ-ofZ (s .fits .m) j) (q % 64 / 2) (λ k. getD (rest (q / 64) (s .args .list .now)) k (pos 0)) i)))
-    ∙ tab-same L _ _ (λ i h. ap sample (luma-rest (s .args .list .now) (s .args .m) _ _ _ _ (q / 64) i (q / 64 + i) (omega arith) refl ∙ tapped-is (s .args .lum) (s .args .m) (p s) q i (λ k l m. s .pre .0 .1 k (omega arith))))
+    ∙ (λ j. tab L (λ i. sample (tapped (s .args .filters .now) (toZ-ofZ (s .fits .m) j) (f s) (λ k. getD (rest (s .args .q / 64) (s .args .list .now)) k (pos 0)) i)))
+    ∙ tab-same L _ _ (λ i h. ap sample (by-four s i h))
 
 same-length-2 : tie.Need-same-length-2
 same-length-2 c = search needs
@@ -168,15 +169,12 @@ same-length-2 c = search needs
 returns-2 : tie.Need-returns-2
 returns-2 c =
     let u = c .before .before in
-    let e = u .before .before .before .before .before .before .before .before in
-    let s = e .before .before .before in
+    let s = u .before .before .before .before .before .before .before .before .before .before .before in
     let t = taps s in
     let L = length (s .args .row .now) in
-    let q = s .args .q in
     u .luma-long .ensures
-    ∙ (λ j. tab L (λ i. sample (luma (toZ-ofZ (s .fits .m) j) ((tap-back s 0 (t .t0) ∙ tap-is s 0) j) ((tap-back s 1 (t .t1) ∙ tap-is s 1) j) ((tap-back s 2 (t .t2) ∙ tap-is s 2) j) ((tap-back s 3 (t .t3) ∙ tap-is s 3) j) (λ k. getD (rest (q / 64) (s .args .list .now)) k (pos 0)) i)))
-    ∙ tab-same L _ _ (λ i h. ap sample (luma-rest (s .args .list .now) (s .args .m) _ _ _ _ (q / 64) i (q / 64 + i) (omega arith) refl ∙ between-luma (s .args .m) (p s) q i))
-    ∙ ap (λ (b : Bool). tab L (λ i. sample (between b (s .args .m) (p s) (q + 64 * i)))) (sym (e .if2 .taken))
+    ∙ (λ j. tab L (λ i. sample (luma (toZ-ofZ (s .fits .m) j) (tap-back s 0 (t .t0) j) (tap-back s 1 (t .t1) j) (tap-back s 2 (t .t2) j) (tap-back s 3 (t .t3) j) (λ k. getD (rest (s .args .q / 64) (s .args .list .now)) k (pos 0)) i)))
+    ∙ tab-same L _ _ (λ i h. ap sample (by-four s i h))
 
 same-length-3 : tie.Need-same-length-3
 same-length-3 c = search needs

@@ -32,7 +32,7 @@ abbrev μ-loop : tie.MeasureT-loop
 
 module _ (c : tie.In-loop Inv-loop μ-loop) where
   abbrev s : tie.Start Inv-loop μ-loop
-  s = c .before .before .before
+  s = c .before .before .before .before
 
   -- the row lies in the output
   room : c .before .loop .o + s .args .w ≤ length (c .before .loop .out)
@@ -46,6 +46,9 @@ module _ (c : tie.In-loop Inv-loop μ-loop) where
   -- its entries are there
   reach : (c .before .loop .q + s .args .dx) / 64 + s .args .w + 3 ≤ s .args .h * s .args .dx / 64 + s .args .w + 7
   reach = omega (arith, mul-le-mul-right (s .args .dx) (c .loop-test .taken))
+
+taps-of-requires : tie.Need-taps-of-requires Inv-loop μ-loop
+taps-of-requires c κs = tt
 
 loop-holds : tie.Need-loop-holds Inv-loop μ-loop
 loop-holds c = (omega arith, omega arith, omega arith, refl, sym (filled-none _ _))
@@ -74,7 +77,7 @@ between-requires c κs =
     let s = s k in
     let l = part-length (k .before .loop .o) (s .args .w) (k .before .loop .out) (room k) in
     simp (toZ-ofZ, s .fits .m, l)
-    ((omega (arith, reach k, s .pre .1 .0), λ i h. s .pre .1 .1 i (omega (arith, reach k))), (refl, s .pre .0 .4))
+    ((omega (arith, reach k, s .pre .1 .0), λ i h. s .pre .1 .1 i (omega (arith, reach k))), (k .before .before .taps-of .ensures, s .pre .0 .4))
 
 add-r : tie.Need-add-r Inv-loop μ-loop
 add-r c = omega arith
@@ -105,7 +108,7 @@ returns : tie.Need-returns Inv-loop μ-loop
 unfolding block
 returns c =
     let k = c .before in
-    let s = k .before .before in
+    let s = k .before .before .before in
     let r : k .loop .r ≡ s .args .h = omega arith in
     let o : k .loop .o ≡ s .args .h * s .args .w = k .loop .inv .1 ∙ ap (λ x. x * s .args .w) r in
     k .loop .inv .4
@@ -117,6 +120,7 @@ z1-rows-spec =
     (tie.spec
     Inv-loop
     μ-loop
+    taps-of-requires
     loop-holds
     add-e
     add-q

@@ -32,7 +32,7 @@ abbrev μ-loop : tie.MeasureT-loop
 
 module _ (c : tie.In-loop Inv-loop μ-loop) where
   abbrev s : tie.Start Inv-loop μ-loop
-  s = c .before .before .before .before
+  s = c .before .before .before .before .before
 
   -- the strip lies in the output
   room : c .before .loop .o + 4 * s .args .w ≤ length (c .before .loop .out)
@@ -60,6 +60,9 @@ module _ (c : tie.In-loop Inv-loop μ-loop) where
       ∙ rows-at 4 (s .args .w) column before h j nan q p
       ∙ ap (λ x. sample (between (s .args .lum) M (λ t. getD (s .args .list .now) t (pos 0)) x)) (place j h)
 
+taps-of-requires : tie.Need-taps-of-requires Inv-loop μ-loop
+taps-of-requires c κs = tt
+
 loop-holds : tie.Need-loop-holds Inv-loop μ-loop
 loop-holds c = (omega arith, omega arith, omega arith, refl, refl, sym (filled-none _ _))
 
@@ -74,7 +77,7 @@ z3-columns-requires c κs =
     let k = c .before .before in
     let s = s k in
     simp (toZ-ofZ, s .fits .m) (
-      (s .pre .0 .0, s .pre .0 .2, omega arith, omega arith, s .pre .0 .5, refl),
+      (s .pre .0 .0, s .pre .0 .2, omega arith, omega arith, s .pre .0 .5, k .before .before .taps-of .ensures),
       (omega (arith, reach k, s .pre .1 .0), λ i h. s .pre .1 .1 i (omega (arith, reach k))),
     )
 
@@ -129,7 +132,7 @@ returns : tie.Need-returns Inv-loop μ-loop
 unfolding block
 returns c =
     let k = c .before in
-    let s = k .before .before .before in
+    let s = k .before .before .before .before in
     let i : k .loop .i ≡ s .args .n = omega arith in
     let o : k .loop .o ≡ 4 * s .args .n * s .args .w = k .loop .inv .1 ∙ ap (λ x. 4 * x * s .args .w) i in
     k .loop .inv .5
@@ -141,6 +144,7 @@ z3-strips-spec =
     (tie.spec
     Inv-loop
     μ-loop
+    taps-of-requires
     loop-holds
     mul-e
     add-e

@@ -31,11 +31,14 @@ abbrev μ-loop : tie.MeasureT-loop
 
 module _ (c : tie.In-loop Inv-loop μ-loop) where
   abbrev s : tie.Start Inv-loop μ-loop
-  s = c .before .before .before .before
+  s = c .before .before .before .before .before
 
   -- the strip lies in the output
   room : c .before .loop .o + 4 * s .args .w ≤ length (c .before .loop .out)
   room = omega (arith, mul-le-mul-right (s .args .w) (c .loop-test .taken))
+
+taps-of-requires : tie.Need-taps-of-requires Inv-loop μ-loop
+taps-of-requires c κs = tt
 
 loop-holds : tie.Need-loop-holds Inv-loop μ-loop
 loop-holds c = (omega arith, omega arith, omega arith, refl, refl, sym (filled-none _ _))
@@ -65,7 +68,7 @@ z2-strip-requires c κs =
     let l = part-length (k .before .loop .o) (4 * s .args .w) (k .before .loop .out) (room k) in
     simp (toZ-ofZ, s .fits .m, l) (
       (s .pre .0 .0, omega arith, s .pre .0 .2, s .pre .0 .3, s .pre .0 .4, s .pre .0 .5, omega arith, refl),
-      (s .pre .1 .0, refl, s .pre .1 .1, (omega (arith, s .pre .1 .2 .0), λ i h. s .pre .1 .2 .1 i (omega arith))),
+      (s .pre .1 .0, k .before .before .taps-of .ensures, s .pre .1 .1, (omega (arith, s .pre .1 .2 .0), λ i h. s .pre .1 .2 .1 i (omega arith))),
     )
 
 add-r0 : tie.Need-add-r0 Inv-loop μ-loop
@@ -104,7 +107,7 @@ returns : tie.Need-returns Inv-loop μ-loop
 unfolding block
 returns c =
     let k = c .before in
-    let s = k .before .before .before in
+    let s = k .before .before .before .before in
     let i : k .loop .i ≡ s .args .n = omega arith in
     let o : k .loop .o ≡ 4 * s .args .n * s .args .w = k .loop .inv .2 ∙ ap (λ x. 4 * x * s .args .w) i in
     k .loop .inv .5
@@ -116,6 +119,7 @@ z2-strips-spec =
     (tie.spec
     Inv-loop
     μ-loop
+    taps-of-requires
     loop-holds
     mul-e
     add-e
