@@ -18,11 +18,8 @@ module _ (s : tie.Start) where
   abbrev e : ℕ → ℤ
   e k = getD (s .args .list .now) k (pos 0)
 
-  small : (k : ℕ) → k < s .args .i + 2 → natAbs (e k) ≤ 4095
-  small k h = inside-abs 4095 (e k) (s .pre .0 .1 k h)
-
   e-back : (k : ℕ) → k < s .args .i + 2 → toZ w32 (ofZ w32 (e k)) ≡ e k
-  e-back k h = back-abs w32 (e k) (omega (arith, small k h))
+  e-back k h = back-abs w32 (e k) (omega (arith, inside-abs 4095 (e k) (s .pre .0 .1 k h)))
 
 mul-chroma-sample : tie.Need-mul-chroma-sample
 mul-chroma-sample c = search needs
@@ -44,7 +41,7 @@ chroma-sample-requires c κs =
     let s = c .before .before in
     let i = s .args .i in
     simp (toZ-ofZ, s .fits .g, s .fits .f, s .fits .m, e-back s i (omega arith), e-back s (i + 1) (omega arith))
-    ((s .pre .1 .0, s .pre .1 .1, small s i (omega arith), small s (i + 1) (omega arith)), s .pre .1 .2)
+    ((s .pre .1 .0, s .pre .1 .1, s .pre .0 .1 i (omega arith), s .pre .0 .1 (i + 1) (omega arith)), s .pre .1 .2)
 
 returns : tie.Need-returns
 returns c =
