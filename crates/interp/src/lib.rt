@@ -4,5 +4,4 @@ pub mod chroma;
 pub mod f2;
 pub mod f4;
 pub mod luma;
-pub mod tables;
 pub mod value;

@@ -1,5 +1,7 @@
 // Zone 3 by strips of four rows: down a column the base moves by one entry and the phase stays, so that a column of a strip is a row of four samples.
 use crate::spread;
+use interp::f2::F2;
+use interp::f4::F4;
 ghost use mathlib.Core.Path.{_≡_};
 ghost use mathlib.Core.Bool.{true};
 ghost use Prim.Native.Nat.{_+_, _*_, _/_, _≤_};
@@ -39,7 +41,35 @@ fn z3_columns(
     }
 }
 
-// 4 n rows of w samples, in out[..4 * n * w].
+// 4 n rows of w samples, in out[..4 * n * w], by the taps of a table.
+fn z3_by(
+    w: usize,
+    n: usize,
+    lum: bool,
+    filters: &[[i32; 4]; 32],
+    dy: usize,
+    m: i32,
+    list: &[i32],
+    strip: &mut [f32],
+    out: &mut [f32],
+)
+    requires { ⌜ (w ≤ 64) × (n ≤ 16) × (dy ≤ 4096) × (w * 4 ≤ length (now strip)) × (4 * n * w ≤ length (now out)) × (inside (pos 4095) m ≡ true) × (now filters ≡ tableOf lum) ⌝ }
+    requires { ⌜ Holds (w * dy / 64 + 4 * n + 7) (now list) ⌝ }
+    ensures { λ _. ⌜ now (out .exit) ≡ block w (4 * n) (λ r c. ahead lum m dy (now (list .entry)) c r) (now (out .entry)) ⌝ }
+{
+    let mut from = 256;
+    let mut o = 0;
+    let mut i = 0;
+    while i < n {
+        let e = o + 4 * w;
+        z3_columns(w, lum, filters, dy, from, m, list, strip);
+        spread::spread(strip, w, &mut out[o..e]);
+        from += 256;
+        o = e;
+        i += 1;
+    }
+}
+
 pub fn z3_strips(
     w: usize,
     n: usize,
@@ -54,16 +84,11 @@ pub fn z3_strips(
     requires { ⌜ Holds (w * dy / 64 + 4 * n + 7) (now list) ⌝ }
     ensures { λ _. ⌜ now (out .exit) ≡ block w (4 * n) (λ r c. ahead lum m dy (now (list .entry)) c r) (now (out .entry)) ⌝ }
 {
-    let filters = interp::tables::taps_of(lum);
-    let mut from = 256;
-    let mut o = 0;
-    let mut i = 0;
-    while i < n {
-        let e = o + 4 * w;
-        z3_columns(w, lum, &filters, dy, from, m, list, strip);
-        spread::spread(strip, w, &mut out[o..e]);
-        from += 256;
-        o = e;
-        i += 1;
+    if lum {
+        let filters = F4;
+        z3_by(w, n, lum, &filters, dy, m, list, strip, out);
+    } else {
+        let filters = F2;
+        z3_by(w, n, lum, &filters, dy, m, list, strip, out);
     }
 }

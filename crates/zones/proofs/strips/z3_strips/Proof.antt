@@ -1,163 +1,52 @@
--- `z3_strips` meets its contract. The invariant: the first i strips are written, o is 4 i w and from is 256 (i + 1). Assumes nothing.
-use Prim.Native.Nat.{ℕ, _≤_, _<_, _+_, _-_, _*_, _/_}
-use native.Mathlib.Nat.{mul-le-mul-right, mul-le-mul}
-use native.Mathlib.Omega.{arith}
-use mathlib.Core.Path.{_≡_, refl, sym, _∙_, ap}
-use mathlib.Core.Bool.{Bool}
-use mathlib.Core.List.{List}
-use lib.ListN.{length, getD}
-use lib.IntN.{ℤ, pos}
-use lib.Ieee.{Float, nan}
-use mir.Syntax.{w32}
-use mir.Val.{toZ, ofZ}
+-- `z3_strips` meets its contract: the table is the plane's. Assumes nothing.
+use borrow.Author.Needs.{needs}
+use mathlib.Core.Path.{_≡_, sym, ap}
 use mir.Facts.{toZ-ofZ}
-use Rattle.lists.specs.Fill.{filled}
-use Rattle.lists.specs.Block.{rows, sample, block}
-use Rattle.lists.proofs.Fill.{filled-none, length-filled}
-use Rattle.lists.proofs.Block.{filled-rows, rows-at}
-use Rattle.interp.specs.Interp.{between}
-use Rattle.zones.specs.Listed.{ahead}
+use Rattle.lists.specs.Fill.{tab}
+use Rattle.interp.specs.Quads.{tableOf}
 use Rattle.zones.proofs.strips.z3_strips.Statement.{statement}
 use Rattle.zones.proofs.strips.z3_strips.Tie as tie
 
-abbrev at : Bool → ℤ → ℕ → List ℤ → ℕ → ℕ → Float
-at lum m dy xs r c = sample (ahead lum m dy xs c r)
+z3-by-requires : tie.Need-z3-by-requires
+z3-by-requires c κs =
+    let b = c .before .before .before in
+    let s = b .before .before .before in
+    let p = s .pre .0 in
+    simp (toZ-ofZ, s .fits .m) ((p .0, p .1, p .2, p .3, p .4, p .5, ap tableOf (sym (b .if1 .taken))), s .pre .1)
 
-abbrev Inv-loop : tie.InvT-loop
-Inv-loop w n lum dy m list strip₀ out₀ filters from₀ o₀ i₀ strip out from o i =
-    (i ≤ n) × (o ≡ 4 * i * w) × (from ≡ 256 * (i + 1)) × (length strip ≡ length strip₀) × (length out ≡ length out₀) × (out ≡ filled o (rows w (at lum (toZ w32 m) dy list)) out₀)
+z3-by-requires-2 : tie.Need-z3-by-requires-2
+unfolding tab
+z3-by-requires-2 c κs =
+    let b = c .before .before .before in
+    let s = b .before .before .before in
+    let p = s .pre .0 in
+    simp (toZ-ofZ, s .fits .m) ((p .0, p .1, p .2, p .3, p .4, p .5, ap tableOf (sym (b .if1 .left))), s .pre .1)
 
-abbrev μ-loop : tie.MeasureT-loop
-μ-loop w n lum dy m list strip₀ out₀ filters from₀ o₀ i₀ strip out from o i = n - i
+same-length : tie.Need-same-length
+same-length c = search needs
 
-module _ (c : tie.In-loop Inv-loop μ-loop) where
-  abbrev s : tie.Start Inv-loop μ-loop
-  s = c .before .before .before .before .before
+same-length-2 : tie.Need-same-length-2
+same-length-2 c = search needs
 
-  -- the strip lies in the output
-  room : c .before .loop .o + 4 * s .args .w ≤ length (c .before .loop .out)
-  room = omega (arith, mul-le-mul-right (s .args .w) (c .loop-test .taken))
-
-  -- its entries are there
-  reach : (c .before .loop .from + s .args .w * s .args .dy) / 64 + 7 ≤ s .args .w * s .args .dy / 64 + 4 * s .args .n + 7
-  reach = omega arith
-
-  -- column h's sample in row j of the strip
-  place : (j h : ℕ) → c .before .loop .from + (h + 1) * s .args .dy + 64 * j ≡ 64 * (4 * c .before .loop .i + j + 1) + (h + 1) * s .args .dy + 192
-  place j h = omega arith
-
-  -- what the strip holds is what stands in its rows
-  abbrev M : ℤ
-  M = toZ w32 (ofZ w32 (s .args .m))
-
-  abbrev column : ℕ → ℕ → Float
-  column h j = sample (between (s .args .lum) M (λ t. getD (s .args .list .now) t (pos 0)) (c .before .loop .from + (h + 1) * s .args .dy + 64 * j))
-
-  stands : (before after : List Float) → after ≡ filled (s .args .w * 4) (rows 4 column) before → (j h : ℕ) → j < 4 → h < s .args .w
-      → getD after (h * 4 + j) nan ≡ at (s .args .lum) M (s .args .dy) (s .args .list .now) (4 * c .before .loop .i + j) h
-  stands before after e j h p q =
-      ap (λ l. getD l (h * 4 + j) nan) e
-      ∙ rows-at 4 (s .args .w) column before h j nan q p
-      ∙ ap (λ x. sample (between (s .args .lum) M (λ t. getD (s .args .list .now) t (pos 0)) x)) (place j h)
-
-taps-of-requires : tie.Need-taps-of-requires Inv-loop μ-loop
-taps-of-requires c κs = tt
-
-loop-holds : tie.Need-loop-holds Inv-loop μ-loop
-loop-holds c = (omega arith, omega arith, omega arith, refl, refl, sym (filled-none _ _))
-
-mul-e : tie.Need-mul-e Inv-loop μ-loop
-mul-e c = omega arith
-
-add-e : tie.Need-add-e Inv-loop μ-loop
-add-e c = omega (arith, room c)
-
-z3-columns-requires : tie.Need-z3-columns-requires Inv-loop μ-loop
-z3-columns-requires c κs =
-    let k = c .before .before in
-    let s = s k in
-    simp (toZ-ofZ, s .fits .m) (
-      (s .pre .0 .0, s .pre .0 .2, omega arith, omega arith, s .pre .0 .5, k .before .before .taps-of .ensures),
-      (omega (arith, reach k, s .pre .1 .0), λ i h. s .pre .1 .1 i (omega (arith, reach k))),
-    )
-
-mul-spread : tie.Need-mul-spread Inv-loop μ-loop
-mul-spread c = omega (arith, room (c .before .before .before .before .before .before))
-
-sub-spread : tie.Need-sub-spread Inv-loop μ-loop
-sub-spread c = omega arith
-
-part-spread-start : tie.Need-part-spread-start Inv-loop μ-loop
-part-spread-start c = omega arith
-
-part-spread-end : tie.Need-part-spread-end Inv-loop μ-loop
-part-spread-end c = omega (arith, room (c .before .before .before .before .before .before))
-
-spread-requires : tie.Need-spread-requires Inv-loop μ-loop
-spread-requires c κs = omega arith
-
-add-from : tie.Need-add-from Inv-loop μ-loop
-add-from c = omega arith
-
-add-i : tie.Need-add-i Inv-loop μ-loop
-add-i c = omega arith
-
-loop-less : tie.Need-loop-less Inv-loop μ-loop
-loop-less c = omega arith
-
-loop-again : tie.Need-loop-again Inv-loop μ-loop
-loop-again c =
-    let u = c .before .before in
-    let z = u .before .before .before .before .before in
-    let i = z .before .before .before in
-    let k = i .before in
-    let s = s i in (
-      omega arith,
-      omega arith,
-      omega arith,
-      omega arith,
-      omega arith,
-      filled-rows (s .args .w) 4 (4 * k .loop .i) (k .loop .o) (k .loop .o + 4 * s .args .w) (at (s .args .lum) (M i) (s .args .dy) (s .args .list .now)) _ _ _ _
-          (k .loop .inv .1) refl (room i) (k .loop .inv .5) (u .spread .ensures)
-          (stands i _ _ (z .z3-columns .ensures)),
-    )
-
-same-length : tie.Need-same-length Inv-loop μ-loop
-same-length c = omega arith
-
-same-length-2 : tie.Need-same-length-2 Inv-loop μ-loop
-same-length-2 c = omega arith
-
-returns : tie.Need-returns Inv-loop μ-loop
-unfolding block
+returns : tie.Need-returns
 returns c =
-    let k = c .before in
-    let s = k .before .before .before .before in
-    let i : k .loop .i ≡ s .args .n = omega arith in
-    let o : k .loop .o ≡ 4 * s .args .n * s .args .w = k .loop .inv .1 ∙ ap (λ x. 4 * x * s .args .w) i in
-    k .loop .inv .5
-    ∙ rw o (λ j. filled (4 * s .args .n * s .args .w) (rows (s .args .w) (at (s .args .lum) (toZ-ofZ (s .fits .m) j) (s .args .dy) (s .args .list .now))) (s .args .out .now))
+    let u = c .before .before .before .before in
+    let s = u .before .before .before .before .before .before .before in
+    simp (toZ-ofZ, s .fits .m) at (u .z3-by .ensures)
+
+same-length-3 : tie.Need-same-length-3
+same-length-3 c = search needs
+
+same-length-4 : tie.Need-same-length-4
+same-length-4 c = search needs
+
+returns-2 : tie.Need-returns-2
+returns-2 c =
+    let u = c .before .before .before .before in
+    let s = u .before .before .before .before .before .before .before in
+    simp (toZ-ofZ, s .fits .m) at (u .z3-by2 .ensures)
 
 pub z3-strips-spec : {M : Type 1} → statement M
 z3-strips-spec =
     tie.close
-    (tie.spec
-    Inv-loop
-    μ-loop
-    taps-of-requires
-    loop-holds
-    mul-e
-    add-e
-    z3-columns-requires
-    mul-spread
-    sub-spread
-    part-spread-start
-    part-spread-end
-    spread-requires
-    add-from
-    add-i
-    loop-less
-    loop-again
-    same-length
-    same-length-2
-    returns)
+    (tie.spec z3-by-requires z3-by-requires-2 same-length same-length-2 returns same-length-3 same-length-4 returns-2)
