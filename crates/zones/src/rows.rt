@@ -45,9 +45,9 @@ pub fn z1_rows(w: usize, h: usize, lum: bool, dx: usize, m: i32, list: &[i32], o
 {
     if lum {
         let filters = F4;
-        z1_by(w, h, lum, &filters, dx, m, list, out);
+        z1_by(w, h, true, &filters, dx, m, list, out);
     } else {
         let filters = F2;
-        z1_by(w, h, lum, &filters, dx, m, list, out);
+        z1_by(w, h, false, &filters, dx, m, list, out);
     }
 }

@@ -86,9 +86,9 @@ pub fn z3_strips(
 {
     if lum {
         let filters = F4;
-        z3_by(w, n, lum, &filters, dy, m, list, strip, out);
+        z3_by(w, n, true, &filters, dy, m, list, strip, out);
     } else {
         let filters = F2;
-        z3_by(w, n, lum, &filters, dy, m, list, strip, out);
+        z3_by(w, n, false, &filters, dy, m, list, strip, out);
     }
 }

@@ -96,9 +96,9 @@ pub fn z2_strips(
 {
     if lum {
         let filters = F4;
-        z2_by(w, n, lum, &filters, dx, dy, m, top, left, strip, out);
+        z2_by(w, n, true, &filters, dx, dy, m, top, left, strip, out);
     } else {
         let filters = F2;
-        z2_by(w, n, lum, &filters, dx, dy, m, top, left, strip, out);
+        z2_by(w, n, false, &filters, dx, dy, m, top, left, strip, out);
     }
 }
