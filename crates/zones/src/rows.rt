@@ -43,11 +43,9 @@ pub fn z1_rows(w: usize, h: usize, lum: bool, dx: usize, m: i32, list: &[i32], o
     requires { ⌜ Holds (h * dx / 64 + w + 7) (now list) ⌝ }
     ensures { λ _. ⌜ now (out .exit) ≡ block w h (ahead lum m dx (now (list .entry))) (now (out .entry)) ⌝ }
 {
+    let mut filters = F2;
     if lum {
-        let filters = F4;
-        z1_by(w, h, true, &filters, dx, m, list, out);
-    } else {
-        let filters = F2;
-        z1_by(w, h, false, &filters, dx, m, list, out);
+        filters = F4;
     }
+    z1_by(w, h, lum, &filters, dx, m, list, out);
 }

@@ -84,11 +84,9 @@ pub fn z3_strips(
     requires { ⌜ Holds (w * dy / 64 + 4 * n + 7) (now list) ⌝ }
     ensures { λ _. ⌜ now (out .exit) ≡ block w (4 * n) (λ r c. ahead lum m dy (now (list .entry)) c r) (now (out .entry)) ⌝ }
 {
+    let mut filters = F2;
     if lum {
-        let filters = F4;
-        z3_by(w, n, true, &filters, dy, m, list, strip, out);
-    } else {
-        let filters = F2;
-        z3_by(w, n, false, &filters, dy, m, list, strip, out);
+        filters = F4;
     }
+    z3_by(w, n, lum, &filters, dy, m, list, strip, out);
 }

@@ -1,23 +1,27 @@
 -- `z2_strips` meets its contract: the table is the plane's. Assumes nothing.
 use borrow.Author.Needs.{needs}
-use mathlib.Core.Path.{_≡_, refl}
+use mathlib.Core.Logic.{⊎-elim}
+use mathlib.Core.Path.{_≡_, sym, _∙_, ap}
 use mir.Facts.{toZ-ofZ}
 use Rattle.lists.specs.Fill.{tab}
+use Rattle.interp.specs.Quads.{tableOf}
 use Rattle.zones.proofs.z2.z2_strips.Statement.{statement}
 use Rattle.zones.proofs.z2.z2_strips.Tie as tie
 
+module _ (j : tie.Joined1) where
+  abbrev s : tie.Start
+  s = j .before .before .before
+
+  table : j .if1 .filters ≡ tableOf (s .args .lum)
+  unfolding tab
+  table = ⊎-elim (λ t. t .1 ∙ ap tableOf (sym (t .0 .taken))) (λ e. e .1 ∙ ap tableOf (sym (e .0 .left))) (j .if1 .came)
+
 z2-by-requires : tie.Need-z2-by-requires
 z2-by-requires c κs =
-    let s = c .before .before .before .before .before .before in
+    let j = c .before .before .before in
+    let s = s j in
     let p = s .pre .0 in
-    simp (toZ-ofZ, s .fits .m) ((p .0, p .1, p .2, p .3, p .4, p .5, p .6, p .7, refl), s .pre .1)
-
-z2-by-requires-2 : tie.Need-z2-by-requires-2
-unfolding tab
-z2-by-requires-2 c κs =
-    let s = c .before .before .before .before .before .before in
-    let p = s .pre .0 in
-    simp (toZ-ofZ, s .fits .m) ((p .0, p .1, p .2, p .3, p .4, p .5, p .6, p .7, refl), s .pre .1)
+    simp (toZ-ofZ, s .fits .m) ((p .0, p .1, p .2, p .3, p .4, p .5, p .6, p .7, table j), s .pre .1)
 
 same-length : tie.Need-same-length
 same-length c = search needs
@@ -28,24 +32,8 @@ same-length-2 c = search needs
 returns : tie.Need-returns
 returns c =
     let u = c .before .before .before .before in
-    let b = u .before .before .before .before in
-    let s = b .before .before .before in
-    rw (b .if1 .taken) (simp (toZ-ofZ, s .fits .m) at (u .z2-by .ensures))
-
-same-length-3 : tie.Need-same-length-3
-same-length-3 c = search needs
-
-same-length-4 : tie.Need-same-length-4
-same-length-4 c = search needs
-
-returns-2 : tie.Need-returns-2
-returns-2 c =
-    let u = c .before .before .before .before in
-    let b = u .before .before .before .before in
-    let s = b .before .before .before in
-    rw (b .if1 .left) (simp (toZ-ofZ, s .fits .m) at (u .z2-by2 .ensures))
+    let s = s (u .before .before .before .before) in
+    simp (toZ-ofZ, s .fits .m) at (u .z2-by .ensures)
 
 pub z2-strips-spec : {M : Type 1} → statement M
-z2-strips-spec =
-    tie.close
-    (tie.spec z2-by-requires z2-by-requires-2 same-length same-length-2 returns same-length-3 same-length-4 returns-2)
+z2-strips-spec = tie.close (tie.spec z2-by-requires same-length same-length-2 returns)
