@@ -31,6 +31,11 @@ enum latch_answer {
     LATCH_BAD_BASE = 6,      /* neither neighbour is there, and base is not in 1..M-1 */
     LATCH_BAD_SAMPLE = 8,    /* a sample or edge entry that is read is not a number in 0..M */
     LATCH_SHORT_LIST = 9,    /* a list is shorter than the call needs */
+    LATCH_BAD_COLOUR_DIRECTION = 10, /* a colour direction is above 2 */
+    LATCH_BAD_REFERENCE = 11,        /* ref_width or ref_height is above 256, or a reference list is shorter than its rows */
+    LATCH_BAD_LINES = 12,            /* above_lines or left_lines is above 256 */
+    LATCH_BAD_COLOUR_SAMPLE = 13,    /* a luma value that is needed is not in 0..8M+7, or a chroma value not in 0..M */
+    LATCH_SUM_TOO_LARGE = 14,        /* one of the nine colour sums exceeds 2147483647 */
     LATCH_BAD_PLANE = 20     /* width or height is not in 4..4096, or the plane's length is not width x height */
 };
 
@@ -141,6 +146,26 @@ uint32_t latch_smooth_h(uint16_t b, uint16_t d, const int32_t *above, size_t abo
 uint32_t latch_directional(uint16_t b, uint16_t d, uint16_t direction, uint16_t delta, uint16_t flags,
                            uint16_t max_width, uint16_t max_height, const int32_t *above, size_t above_len,
                            const int32_t *left, size_t left_len, int32_t corner, float *out, size_t out_len);
+
+/* Colour parameters from a reference window: three parameters that predict chroma from luma, in 16 binary digits after the point.
+ * A reference list has rows of 256 entries, whatever ref_width. A sample counts at columns 1 to ref_width - 2 and rows 1 to
+ * ref_height - 2, in the first above_lines rows or the first left_lines columns. No sample that counts gives 0, 0, 65536.
+ * Direction 0 takes the luma at the place itself, 1 the one above it, 2 the one before it.
+ *
+ * Writes params[0..2]. Lent: luma and chroma, at least ref_height x 256 entries each; params, at least 3 entries.
+ *
+ * Refusals, in the order of checking:
+ *    2  d is none of 8, 10, 12
+ *   10  direction is above 2
+ *   11  ref_width or ref_height is above 256, or luma_len or chroma_len is under ref_height x 256
+ *   12  above_lines or left_lines is above 256
+ *    9  params_len is under 3
+ *   13  at a sample that counts, the direction's luma or the luma at the place is not in 0..8M+7, or the chroma is not in 0..M
+ *   14  one of the nine sums exceeds 2147483647
+ * A refused call changes nothing; a longer params keeps its tail; the slices must not overlap. */
+uint32_t latch_derive_params(const int32_t *luma, size_t luma_len, const int32_t *chroma, size_t chroma_len,
+                             size_t ref_width, size_t ref_height, size_t above_lines, size_t left_lines,
+                             uint32_t direction, uint32_t d, int32_t *params, size_t params_len);
 
 #ifdef __cplusplus
 }

@@ -4,6 +4,7 @@ use mathlib.Core.List.{List}
 use Prim.Native.Nat.{ℕ}
 use lib.IntN.{ℤ}
 use lib.Ieee.{Float}
+use lib.Dec.{leb}
 use lib.ListN.{length}
 use Rattle.numbers.specs.Answer.{answerNumber}
 use Rattle.lists.specs.Block.{block}
@@ -11,6 +12,9 @@ use Rattle.ladder.specs.Promise.{lent, Promise}
 use Rattle.edges.specs.Refs.{Lists, answerFor, refsOf}
 use Rattle.edges.specs.declared.spec.IntraRefSpec.{IntraRefSpec}
 use Rattle.calls.specs.Direct.{Predictor, directAnswer}
+use Rattle.sums.specs.declared.window.Window.{Window}
+use Rattle.derive.specs.Rules.{deriveAnswer}
+use Rattle.derive.specs.Derived.{windowParams, written}
 
 -- a predictor's call; named says that its mode's words name a mode
 abbrev pub PredictedByC : Bool → Predictor → ℕ → ℕ → List ℤ → List ℤ → ℤ → List Float → List Float → ℕ → Type 0
@@ -45,3 +49,18 @@ lists above left corner = record { above = above; left = left; corner = corner }
 abbrev pub BuiltC : List Float → ℕ → ℕ → IntraRefSpec → Lists → Lists → ℕ → Type 0
 BuiltC plane W H s before after r =
     Promise (answerNumber (answerFor plane W H s before)) (lent (answerFor plane W H s before) (refsOf plane W s before) before) r after
+
+-- `derive_params`, whose window is given by its four sizes
+abbrev pub window : ℕ → ℕ → ℕ → ℕ → Window
+window refWidth refHeight aboveLines leftLines = record {
+  «ref_width» = refWidth;
+  «ref_height» = refHeight;
+  «above_lines» = aboveLines;
+  «left_lines» = leftLines;
+}
+
+abbrev pub DerivedC : List ℤ → List ℤ → Window → ℕ → ℕ → List ℤ → List ℤ → ℕ → Type 0
+DerivedC luma chroma w direction D before after r =
+    Promise (answerNumber (deriveAnswer luma chroma w direction D (leb 3 (length before))))
+    (lent (deriveAnswer luma chroma w direction D (leb 3 (length before))) (written (windowParams luma chroma w direction D) before) before)
+    r after

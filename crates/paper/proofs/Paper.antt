@@ -1,6 +1,6 @@
 -- The definitions give the paper's numbers: one claim over the whole list. Assumes nothing.
 use mathlib.Core.Path.{_≡_, refl}
-use lib.Count.{trailingZeros}
+use lib.Count.{trailingZeros, leadingZeros}
 use lib.Ieee.{ofBits, add, toUnsigned}
 use Rattle.lists.specs.Fill.{tab}
 use Rattle.samples.specs.Sample.{reading}
@@ -13,8 +13,10 @@ use Rattle.filter.specs.Strength.{strength}
 use Rattle.filter.specs.Filter.{edge, filtered, cornerOf}
 use Rattle.zones.specs.Zones.{along as alongEdge, zone2}
 use Rattle.directional.specs.Directional.{isDown, isAcross}
+use Rattle.fixed.specs.Product.{ilog2, digits, over, narrow, rounded, mulFixed}
+use Rattle.fixed.specs.Division.{curve, moved, fraction, scaleOf}
 use Rattle.paper.specs.Paper.{given, paper}
 
 pub as-on-paper : given ≡ paper
-unfolding given paper paeth blend log2 scale weight trailingZeros tab reading ofBits add toUnsigned aboveBehind leftBehind cornerBehind along isDown isAcross alongEdge zone2 filtered strength edge cornerOf between clip taps2
+unfolding given paper paeth blend log2 scale weight trailingZeros tab reading ofBits add toUnsigned aboveBehind leftBehind cornerBehind along isDown isAcross alongEdge zone2 filtered strength edge cornerOf between clip taps2 mulFixed rounded narrow over digits ilog2 leadingZeros scaleOf curve fraction moved
 as-on-paper = refl

@@ -1,8 +1,8 @@
--- "Numbers on paper" of document 01, cases 1 to 11: what the definitions give, and what the paper has, case by case in the same order.
+-- "Numbers on paper" of document 01, cases 1 to 14: what the definitions give, and what the paper has, case by case in the same order.
 use mathlib.Core.Bool.{true, false}
 use mathlib.Core.List.{List, [], _∷_}
 use Prim.Native.Nat.{ℕ, _+_, _/_, _%_}
-use lib.IntN.{ℤ, pos}
+use lib.IntN.{ℤ, pos, negℤ}
 use lib.Ieee.{Float, binary32, ofBits}
 use Rattle.lists.specs.Fill.{tab}
 use Rattle.samples.specs.Sample.{reading}
@@ -12,6 +12,8 @@ use Rattle.edges.specs.declared.spec.IntraRefSpec.{IntraRefSpec}
 use Rattle.paeth.specs.Paeth.{paeth}
 use Rattle.smooth.specs.Smooth.{smoothVAt}
 use Rattle.directional.specs.Directional.{directionalAt}
+use Rattle.fixed.specs.Product.{ilog2, mulFixed}
+use Rattle.fixed.specs.Division.{scaleOf}
 
 -- smooth_v at B 4, where all entries above are t and all at the left e: row r of the first column
 abbrev smoothV4 : ℕ → ℕ → ℕ → ℤ
@@ -61,7 +63,13 @@ given =
     -- 10: angle 135: the four samples with x = y, where the corner is 99
     tab 4 (λ i. chroma4 135 (from 0) (from 100) (pos 99) i i) ∷
     -- 11: angle 67, above0 10, above1 42: the first sample
-    (chroma4 67 (pos 10 ∷ pos 42 ∷ from 50) (from 100) (pos 99) 0 0 ∷ []) ∷ []
+    (chroma4 67 (pos 10 ∷ pos 42 ∷ from 50) (from 100) (pos 99) 0 0 ∷ []) ∷
+    -- 12: the product of -32768 and 1, shift 16
+    (mulFixed (negℤ (pos 32768)) (pos 1) 16 ∷ []) ∷
+    -- 13: 1048640 by 1048576, shift 16, and the factors exchanged
+    (mulFixed (pos 1048640) (pos 1048576) 16 ∷ mulFixed (pos 1048576) (pos 1048640) 16 ∷ []) ∷
+    -- 14: divisor 1: scale and shift
+    (scaleOf 1 ∷ pos (ilog2 1) ∷ []) ∷ []
 
 unfoldable pub paper : List (List ℤ)
 paper =
@@ -75,4 +83,7 @@ paper =
     (pos 127 ∷ pos 129 ∷ pos 128 ∷ []) ∷
     (pos 1 ∷ pos 2 ∷ pos 3 ∷ pos 4 ∷ pos 2 ∷ pos 3 ∷ pos 4 ∷ pos 5 ∷ pos 3 ∷ pos 4 ∷ pos 5 ∷ pos 6 ∷ pos 4 ∷ pos 5 ∷ pos 6 ∷ pos 7 ∷ []) ∷
     (pos 99 ∷ pos 99 ∷ pos 99 ∷ pos 99 ∷ []) ∷
-    (pos 22 ∷ []) ∷ []
+    (pos 22 ∷ []) ∷
+    (negℤ (pos 1) ∷ []) ∷
+    (pos 16778240 ∷ pos 16777216 ∷ []) ∷
+    (pos 65524 ∷ pos 0 ∷ []) ∷ []

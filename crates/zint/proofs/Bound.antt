@@ -10,8 +10,8 @@ use lib.Dec.{T, ltb, leb, ltb→lt, le→leb, lt→ltb}
 use lib.IntN.{ℤ, pos, negsuc, negℤ, natAbs, _+ℤ_, _-ℤ_, _*ℤ_}
 use lib.Signed.{shrZ, leZ}
 use lib.Ieee.{binary32, inFloat}
-use mir.Syntax.{Width, w32}
-use mir.Val.{SFits, Fits, hbits, toZ, ofZ}
+use mir.Syntax.{Width}
+use mir.Val.{SFits, hbits, toZ, ofZ}
 use mir.ValLaws.{toZ-ofZ}
 use mir.Facts.{sfits-widen}
 use Rattle.zint.proofs.Parts.{up, dn, same, sfits, add, sub, neg, abs, one}
@@ -42,7 +42,11 @@ abs-shr (negsuc a) m = omega (arith, div-le-self a m)
 pub abs-swap : (x y : ℤ) → natAbs (x -ℤ y) ≡ natAbs (y -ℤ x)
 abs-swap x y = let e : x -ℤ y ≡ negℤ (y -ℤ x) = same _ _ (omega (arith, sub x y, sub y x, neg (y -ℤ x))) in ap natAbs e ∙ abs-neg (y -ℤ x)
 
--- a number that is not above 0, and a difference whose sign a test has shown
+-- a number that is not below 0, one that is not above, and a difference whose sign a test has shown
+pub not-neg : (z : ℤ) → dn z ≤ up z → z ≡ pos (natAbs z)
+not-neg (pos n) h = refl
+not-neg (negsuc n) h = absurd (omega arith)
+
 pub not-pos : (z : ℤ) → up z ≤ dn z → z ≡ negℤ (pos (natAbs z))
 not-pos (pos zero) h = refl
 not-pos (pos (suc n)) h = absurd (omega arith)

@@ -1,0 +1,97 @@
+-- What the answer is, test by test, and what a window that passes them has. Assumes nothing.
+use mathlib.Core.Path.{_≡_, refl, sym, _∙_, ap}
+use mathlib.Core.Bool.{Bool, true, false, cond, _&&_}
+use mathlib.Core.List.{List, [], _∷_, _++_}
+use Prim.Native.Nat.{ℕ, _*_, _≤_}
+use native.Mathlib.Omega.{arith}
+use lib.Dec.{leb}
+use lib.IntN.{ℤ}
+use lib.ListN.{length, set}
+use borrow.Author.Tests.{leb-true}
+use Rattle.numbers.specs.Answer.{isDone}
+use Rattle.numbers.specs.Depth.{isDepth, most}
+use Rattle.numbers.specs.declared.answer.Answer.{Answer}
+use Rattle.numbers.specs.declared.answer.Answer.the-variants.{Done, BadDepth, BadColourSample, SumTooLarge}
+use Rattle.zint.proofs.Range.{and-both}
+use Rattle.ladder.specs.Ladder.{Rule, _else_, ladder}
+use Rattle.ladder.proofs.Ladder.{all-kept}
+use Rattle.fixed.specs.declared.elimination.Params.{Params}
+use Rattle.sums.specs.Sum.{sumsOf, isReadable, Laid}
+use Rattle.sums.specs.declared.window.Window.{Window}
+use Rattle.derive.specs.Rules.{isReference, isSmall, windowRules, sampleRules, deriveRules, deriveAnswer}
+use Rattle.derive.specs.Derived.{zeros, windowParams, derived, written}
+use Rattle.derive.specs.declared.Derived.{Derived}
+use Rattle.derive.proofs.Later.{later-refused, later-done}
+
+pub laid : (w : Window) (luma chroma : List ℤ) → isReference w (length luma) (length chroma) ≡ true → Laid w luma chroma
+unfolding isReference
+laid w luma chroma e =
+    let a = leb (w .«ref_width») 256 in
+    let b = leb (w .«ref_height») 256 in
+    let c = leb (w .«ref_height» * 256) (length luma) in
+    let p = and-both ((a && b) && c) (leb (w .«ref_height» * 256) (length chroma)) e in
+    let q = and-both (a && b) c (p .0) in
+    let r = and-both a b (q .0) in
+    record { wide = leb-true _ _ (r .0); high = leb-true _ _ (r .1); luma-long = leb-true _ _ (q .1); chroma-long = leb-true _ _ (p .1) }
+
+module _ (luma chroma : List ℤ) (w : Window) (direction D : ℕ) (room : Bool) where
+  abbrev rules : List Rule
+  rules = windowRules (length luma) (length chroma) w direction room
+
+  -- a window that passes 10, 11, 12 and 9
+  pub passed : ladder rules ≡ Done → Laid w luma chroma
+  passed e = laid w luma chroma (all-kept rules tt e .1 .0)
+
+  -- one that is accepted has room for its parameters
+  pub room-kept : deriveAnswer luma chroma w direction D room ≡ Done → room ≡ true
+  unfolding deriveAnswer
+  room-kept e = all-kept (deriveRules luma chroma w direction D room) tt e .1 .1 .1 .1 .0
+
+  -- the answer
+  pub answer-depth : isDepth D ≡ false → deriveAnswer luma chroma w direction D room ≡ BadDepth
+  unfolding deriveAnswer
+  answer-depth e = simp e
+
+  pub answer-window : isDepth D ≡ true → isDone (ladder rules) ≡ false → deriveAnswer luma chroma w direction D room ≡ ladder rules
+  unfolding deriveAnswer
+  answer-window e n = simp e (later-refused rules (sampleRules luma chroma w direction D) n)
+
+  pub answer-samples : isDepth D ≡ true → ladder rules ≡ Done
+      → deriveAnswer luma chroma w direction D room ≡ ladder (sampleRules luma chroma w direction D)
+  unfolding deriveAnswer
+  answer-samples e n = simp e (later-done rules (sampleRules luma chroma w direction D) n tt)
+
+  pub bad-sample : isReadable (most D) direction luma chroma w ≡ false → ladder (sampleRules luma chroma w direction D) ≡ BadColourSample
+  bad-sample e = ap (λ t. cond t (ladder (isSmall (sumsOf D direction luma chroma w) else SumTooLarge ∷ [])) BadColourSample) e
+
+  -- what is returned
+  pub derived-refused : (a : Answer) → deriveAnswer luma chroma w direction D room ≡ a → isDone a ≡ false
+      → record { answer = a; params = zeros } ≡ derived luma chroma w direction D room
+  unfolding derived
+  derived-refused a e n = λ j. record {
+    answer = sym e j;
+    params = (sym (ap (λ t. cond t (windowParams luma chroma w direction D) zeros) (ap isDone e ∙ n))) j;
+  }
+
+  pub derived-done : (a : Answer) (p : Params) → deriveAnswer luma chroma w direction D room ≡ a → a ≡ Done → p ≡ windowParams luma chroma w direction D
+      → _≡_ {A = Derived} (record { answer = a; params = p }) (derived luma chroma w direction D room)
+  unfolding derived isDone
+  derived-done a p e n h = λ j. record {
+    answer = sym e j;
+    params = (h ∙ sym (ap (λ b. cond (isDone b) (windowParams luma chroma w direction D) zeros) (e ∙ n))) j;
+  }
+
+  pub derived-params : isDone (deriveAnswer luma chroma w direction D room) ≡ true → derived luma chroma w direction D room .params ≡ windowParams luma chroma w direction D
+  unfolding derived
+  derived-params e = ap (λ t. cond t (windowParams luma chroma w direction D) zeros) e
+
+  pub derived-answer : derived luma chroma w direction D room .answer ≡ deriveAnswer luma chroma w direction D room
+  unfolding derived
+  derived-answer = refl
+
+-- three stores at the front of a list
+pub three-stores : (p : Params) (xs : List ℤ) → 3 ≤ length xs → set (set (set xs 0 (p .x0)) 1 (p .x1)) 2 (p .x2) ≡ written p xs
+three-stores p (a ∷ b ∷ c ∷ xs) h = refl
+three-stores p [] h = absurd (omega arith)
+three-stores p (a ∷ []) h = absurd (omega arith)
+three-stores p (a ∷ b ∷ []) h = absurd (omega arith)

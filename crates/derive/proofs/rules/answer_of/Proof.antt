@@ -1,0 +1,75 @@
+-- `answer_of` meets its contract: each test is the ladder's, in its order. Assumes nothing.
+use borrow.Author.Needs.{needs}
+use borrow.Author.Tests.{not-true, not-false, le-leb, lt-leb}
+use mathlib.Core.Path.{_≡_, sym, _∙_}
+use mathlib.Core.Bool.{true}
+use lib.Dec.{leb}
+use Rattle.derive.specs.Rules.{isReference, isLines}
+use Rattle.derive.proofs.rules.answer_of.Statement.{statement}
+use Rattle.derive.proofs.rules.answer_of.Tie as tie
+
+-- what each test has shown where it is passed
+few : (c : tie.Else1) → leb (c .before .args .direction) 2 ≡ true
+few c = le-leb _ _ (c .if1 .left)
+
+module _ (c : tie.Else2) where
+  abbrev s : tie.Start
+  s = c .before .before .before
+
+  reference : isReference (s .args .w) (s .args .luma) (s .args .chroma) ≡ true
+  reference = sym (c .before .is-reference .ensures) ∙ not-false (c .before .is-reference .result) (c .if2 .left)
+
+lines : (c : tie.Else3) → isLines (s (c .before .before) .args .w) ≡ true
+lines c = sym (c .before .is-lines .ensures) ∙ not-false (c .before .is-lines .result) (c .if3 .left)
+
+room : (c : tie.Else4) → s (c .before .before .before) .args .room ≡ true
+room c = not-false (s (c .before .before .before) .args .room) (c .if4 .left)
+
+returns : tie.Need-returns
+returns c = simp (lt-leb _ _ (c .if1 .taken))
+
+is-reference-requires : tie.Need-is-reference-requires
+is-reference-requires c κs = search needs
+
+returns-2 : tie.Need-returns-2
+returns-2 c =
+    simp (
+      few (c .before .before),
+      sym (c .before .is-reference .ensures) ∙ not-true (c .before .is-reference .result) (c .if2 .taken),
+    )
+
+is-lines-requires : tie.Need-is-lines-requires
+is-lines-requires c κs = search needs
+
+returns-3 : tie.Need-returns-3
+returns-3 c =
+    let f = c .before .before in
+    simp (
+      few (f .before .before),
+      reference f,
+      sym (c .before .is-lines .ensures) ∙ not-true (c .before .is-lines .result) (c .if3 .taken),
+    )
+
+returns-4 : tie.Need-returns-4
+returns-4 c =
+    let g = c .before in
+    let f = g .before .before in
+    simp (few (f .before .before), reference f, lines g, not-true (s f .args .room) (c .if4 .taken))
+
+returns-5 : tie.Need-returns-5
+returns-5 c =
+    let g = c .before in
+    let f = g .before .before in
+    simp (few (f .before .before), reference f, lines g, room c)
+
+pub answer-of-spec : {M : Type 1} → statement M
+answer-of-spec =
+    tie.close
+    (tie.spec
+    returns
+    is-reference-requires
+    returns-2
+    is-lines-requires
+    returns-3
+    returns-4
+    returns-5)

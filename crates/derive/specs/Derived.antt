@@ -1,0 +1,40 @@
+-- What `derive_params` gives: "where three parameters would be returned they are zeros" when it refuses (document 01, Refusal numbers).
+use mathlib.Core.Bool.{Bool, cond}
+use mathlib.Core.List.{List, _∷_}
+use Prim.Native.Nat.{ℕ}
+use lib.Dec.{leb}
+use lib.IntN.{ℤ, pos}
+use lib.ListN.{length, drop}
+use Rattle.numbers.specs.Answer.{isDone}
+use Rattle.numbers.specs.declared.answer.Answer.{Answer}
+use Rattle.ladder.specs.Promise.{lent, Promise}
+use Rattle.fixed.specs.declared.elimination.Params.{Params}
+use Rattle.sums.specs.Sum.{sumsOf, countOf}
+use Rattle.sums.specs.declared.window.Window.{Window}
+use Rattle.derive.specs.Shift.{paramsOf}
+use Rattle.derive.specs.Rules.{deriveAnswer}
+use Rattle.derive.specs.declared.Derived.{Derived}
+
+abbrev pub zeros : Params
+zeros = record { x0 = pos 0; x1 = pos 0; x2 = pos 0 }
+
+-- the parameters of a window that is accepted
+unfoldable pub windowParams : List ℤ → List ℤ → Window → ℕ → ℕ → Params
+windowParams luma chroma w direction D = paramsOf D (countOf w) (sumsOf D direction luma chroma w)
+
+unfoldable pub derived : List ℤ → List ℤ → Window → ℕ → ℕ → Bool → Derived
+derived luma chroma w direction D room = record {
+  answer = deriveAnswer luma chroma w direction D room;
+  params = cond (isDone (deriveAnswer luma chroma w direction D room)) (windowParams luma chroma w direction D) zeros;
+}
+
+-- the parameters at the front of a list, whose tail is kept
+abbrev pub written : Params → List ℤ → List ℤ
+written p xs = p .x0 ∷ p .x1 ∷ p .x2 ∷ drop 3 xs
+
+-- of a call that writes them: its answer r, and the list before and after
+abbrev pub Written : List ℤ → List ℤ → Window → ℕ → ℕ → List ℤ → List ℤ → Answer → Type 0
+Written luma chroma w direction D before after r =
+    Promise (deriveAnswer luma chroma w direction D (leb 3 (length before)))
+    (lent (deriveAnswer luma chroma w direction D (leb 3 (length before))) (written (windowParams luma chroma w direction D) before) before)
+    r after

@@ -1,0 +1,52 @@
+-- "colour calls 2, 10, 11, 12, 9, 13, 14" (document 01, Refusal numbers): what `derive_params` tests, in that order.
+use mathlib.Core.Bool.{Bool, _&&_}
+use mathlib.Core.List.{List, [], _∷_, _++_}
+use Prim.Native.Nat.{ℕ, _*_}
+use lib.Dec.{leb}
+use lib.IntN.{ℤ}
+use lib.ListN.{length}
+use Rattle.numbers.specs.Depth.{isDepth, most}
+use Rattle.numbers.specs.declared.answer.Answer.{Answer}
+use Rattle.numbers.specs.declared.answer.Answer.the-variants.{BadDepth, BadColourDirection, BadReference, BadLines, ShortList, BadColourSample, SumTooLarge}
+use Rattle.ladder.specs.Ladder.{Rule, _else_, ladder}
+use Rattle.terms.specs.Terms.{stride}
+use Rattle.sums.specs.Sum.{sumsOf, isReadable}
+use Rattle.sums.specs.declared.nine.Nine.{Nine}
+use Rattle.sums.specs.declared.window.Window.{Window}
+
+-- "ref_width or ref_height above 256, or luma (in derivation also chroma) shorter than ref_height x 256"
+unfoldable pub isReference : Window → ℕ → ℕ → Bool
+isReference w luma chroma =
+    leb (w .«ref_width») 256 && leb (w .«ref_height») 256 && leb (w .«ref_height» * stride) luma && leb (w .«ref_height» * stride) chroma
+
+-- "above_lines or left_lines above 256"
+unfoldable pub isLines : Window → Bool
+isLines w = leb (w .«above_lines») 256 && leb (w .«left_lines») 256
+
+-- "one of the nine colour sums exceeds 2,147,483,647"
+unfoldable pub isSmall : Nine → Bool
+isSmall s =
+    leb (s .a00) 2147483647 && leb (s .a01) 2147483647 && leb (s .a02) 2147483647 && leb (s .a11) 2147483647 && leb (s .a12) 2147483647
+    && leb (s .a22) 2147483647 && leb (s .y0) 2147483647 && leb (s .y1) 2147483647 && leb (s .y2) 2147483647
+
+-- 10, 11, 12 and 9, of lists with so many entries. `room` says that the list which takes the parameters has three entries, and is true where they are
+-- returned
+abbrev pub windowRules : ℕ → ℕ → Window → ℕ → Bool → List Rule
+windowRules luma chroma w direction room =
+    leb direction 2 else BadColourDirection ∷
+    isReference w luma chroma else BadReference ∷
+    isLines w else BadLines ∷
+    room else ShortList ∷ []
+
+-- 13 and 14
+abbrev pub sampleRules : List ℤ → List ℤ → Window → ℕ → ℕ → List Rule
+sampleRules luma chroma w direction D =
+    isReadable (most D) direction luma chroma w else BadColourSample ∷
+    isSmall (sumsOf D direction luma chroma w) else SumTooLarge ∷ []
+
+abbrev pub deriveRules : List ℤ → List ℤ → Window → ℕ → ℕ → Bool → List Rule
+deriveRules luma chroma w direction D room =
+    isDepth D else BadDepth ∷ (windowRules (length luma) (length chroma) w direction room ++ sampleRules luma chroma w direction D)
+
+unfoldable pub deriveAnswer : List ℤ → List ℤ → Window → ℕ → ℕ → Bool → Answer
+deriveAnswer luma chroma w direction D room = ladder (deriveRules luma chroma w direction D room)

@@ -1,0 +1,46 @@
+// Refusal 14, and the parameters from sums that it lets pass (document 01, Colour parameters).
+use crate::shift;
+use fixed::elimination;
+use fixed::elimination::Params;
+use numbers::depth::Depth;
+use sums::nine::Nine;
+ghost use mathlib.Core.Path.{_≡_};
+ghost use Prim.Native.Nat.{_*_, _≤_};
+ghost use Rattle.numbers.specs.Depth.{bitsOf, most};
+ghost use Rattle.sums.specs.Sum.{NineMost};
+ghost use Rattle.derive.specs.Rules.{isSmall};
+ghost use Rattle.derive.specs.Shift.{paramsOf};
+
+// The largest sum that is accepted.
+const LARGEST: u64 = 2147483647;
+
+// Whether none of the nine sums exceeds it.
+pub fn is_small(s: Nine) -> bool
+    ensures { λ r. ⌜ r ≡ isSmall s ⌝ }
+{
+    (s.a00 <= LARGEST)
+        & (s.a01 <= LARGEST)
+        & (s.a02 <= LARGEST)
+        & (s.a11 <= LARGEST)
+        & (s.a12 <= LARGEST)
+        & (s.a22 <= LARGEST)
+        & (s.y0 <= LARGEST)
+        & (s.y1 <= LARGEST)
+        & (s.y2 <= LARGEST)
+}
+
+// The parameters of n samples with the sums s.
+pub fn params_of(s: Nine, n: usize, depth: Depth, d: u32) -> Params
+    requires { ⌜ (bitsOf depth ≡ d) × (n ≤ 65536) × NineMost (n * (most d * most d)) s ⌝ }
+    ensures { λ r. ⌜ r ≡ paramsOf d n s ⌝ }
+{
+    if n == 0 {
+        return Params {
+            x0: 0,
+            x1: 0,
+            x2: 65536,
+        };
+    }
+    let e = 2 * d + shift::ceil_log2(n as u32);
+    elimination::gauss_elimination(shift::shift_all(s, e), elimination::regulariser(depth))
+}

@@ -1,0 +1,8 @@
+-- Laws of the product, of the reciprocal and of elimination.
+pub mod Shift
+pub mod Rounding
+pub mod Bounds
+pub mod Short
+pub mod Reciprocal
+pub mod Calls
+pub mod Read

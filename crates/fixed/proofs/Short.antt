@@ -1,0 +1,79 @@
+-- "The short product in `predict_block` equals it for all factors" (document 01, Colour parameters): with a second factor below the limit no digit is
+-- over, so the product is rounded as it is. Assumes nothing.
+use mathlib.Core.Path.{_≡_, refl, sym, ap, ap₂, _∙_, subst}
+use mathlib.Core.Logic.{_⊎_, inl, inr, ⊎-elim}
+use Prim.Native.Nat.{ℕ, zero, suc, _+_, _-_, _*_, _/_, _^_, _≤_, _<_}
+use native.Mathlib.Omega.{arith}
+use native.Mathlib.Nat as N
+use lib.Pow.{pow-add}
+use lib.IntN.{ℤ, pos, negsuc, negℤ, natAbs, _*ℤ_}
+use lib.Signed.{shrZ}
+use mir.Syntax.{w32}
+use mir.Val.{SFits}
+use borrow.Author.Tests.{le-leb, lt-leb}
+use Rattle.zint.proofs.Bound.{abs-times}
+use Rattle.fixed.specs.Product.{ilog2, digits, over, narrow, signed, near, rounded, mulFixed, limitOf}
+use Rattle.fixed.proofs.Shift.{either, pow-le, ilog2-is, ilog2-zero}
+use Rattle.fixed.proofs.Rounding.{rounded-near}
+use Rattle.fixed.proofs.Bounds.{digits-of}
+
+pub limit-few : (a : ℤ) → digits a ≤ 28 → limitOf a ≡ 2 ^ (29 - digits a)
+unfolding limitOf
+limit-few a h = simp (le-leb (digits a) 28 h)
+
+pub limit-none : (a : ℤ) → 28 < digits a → limitOf a ≡ 0
+unfolding limitOf
+limit-none a h = simp (lt-leb (digits a) 28 h)
+
+-- n < 2 ^ k has at most k digits, for 1 ≤ k
+pow-below : (i k : ℕ) → 2 ^ i < 2 ^ k → i < k
+pow-below i k h = ⊎-elim (λ (l : k ≤ i). let g = pow-le {i = k} {j = i} l in absurd (omega arith)) (λ l. l) (either k i)
+
+digits-few : (n k : ℕ) → 1 ≤ k → n < 2 ^ k → n < 2 ^ 32 → digits (pos n) ≤ k
+unfolding digits
+digits-few n k h l m =
+    ⊎-elim (λ (z : n ≡ 0). omega (arith, ap ilog2 z ∙ ilog2-zero))
+    (λ (p : 0 < n). let g = ilog2-is n p m .0 .low in omega (arith, pow-below (ilog2 n) k (N.lt-of-le-of-lt g l))) (N.eq-zero-or-pos n)
+
+shr-one : (z : ℤ) → shrZ z 1 ≡ z
+shr-one (pos n) = ap pos (N.div-one n)
+shr-one (negsuc n) = ap negsuc (N.div-one n)
+
+narrow-plain : (a b : ℤ) → over a b ≡ 0 → narrow a b ≡ a *ℤ b
+unfolding narrow
+narrow-plain a b e = ap (λ (o : ℕ). shrZ a (2 ^ (o / 2)) *ℤ shrZ b (2 ^ (o - o / 2))) e ∙ ap₂ _*ℤ_ (shr-one a) (shr-one b)
+
+-- the product's sign is the first factor's, or the product is 0
+signed-down : (x q : ℕ) → (x ≡ 0 → q ≡ 0) → signed (negℤ (pos x)) q ≡ negℤ (pos q)
+signed-down zero q h = ap pos (h refl) ∙ ap (λ (i : ℕ). negℤ (pos i)) (sym (h refl))
+signed-down (suc x) q h = refl
+
+signed-mul : (a : ℤ) (n : ℕ) → signed (a *ℤ pos n) (near (natAbs a * n) 16) ≡ signed a (near (natAbs a * n) 16)
+signed-mul (pos m) n = refl
+signed-mul (negsuc m) n = signed-down (suc m * n) _ (λ z. omega arith)
+
+pub record Short (a : ℤ) (n : ℕ) : Type 0 where
+  pub small : natAbs a * n ≤ 2 ^ 29
+  pub is : signed a (near (natAbs a * n) 16) ≡ mulFixed a (pos n) 16
+
+pub short : (a : ℤ) (n : ℕ) → SFits w32 a → n < limitOf a → Short a n
+unfolding over mulFixed
+short a n f h = go (either (digits a) 28)
+  where
+    go : (digits a ≤ 28) ⊎ (28 < digits a) → Short a n
+    go (inr l) = absurd (omega (arith, limit-none a l))
+    go (inl l) =
+        let d = digits-of a f in
+        let b : n < 2 ^ (29 - digits a) = subst (λ (m : ℕ). n < m) (limit-few a l) h in
+        let w = digits-few n (29 - digits a) (omega arith) b (N.lt-of-lt-of-le b (pow-le {i = 29 - digits a} {j = 32} (omega arith))) in
+        let o : over a (pos n) ≡ 0 = omega arith in
+        let e : digits a + (29 - digits a) ≡ 29 = omega arith in
+        record {
+          small =
+              subst (λ (m : ℕ). natAbs a * n ≤ m) (sym (pow-add 2 (digits a) (29 - digits a)) ∙ ap (λ (i : ℕ). 2 ^ i) e)
+              (N.mul-le-mul (N.le-of-lt (d .abs)) (N.le-of-lt b));
+          is =
+              sym (ap₂ (λ (p : ℤ) (i : ℕ). rounded p (16 - i)) (narrow-plain a (pos n) o) o
+              ∙ rounded-near (a *ℤ pos n) 16 (omega arith) (omega arith)
+              ∙ ap (λ (m : ℕ). signed (a *ℤ pos n) (near m 16)) (abs-times a (pos n)) ∙ signed-mul a n);
+        }

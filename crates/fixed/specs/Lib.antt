@@ -1,0 +1,5 @@
+-- The product, the reciprocal, and elimination, over whole numbers.
+pub mod Product
+pub mod Division
+pub mod Rows
+pub mod Elimination

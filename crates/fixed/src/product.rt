@@ -1,0 +1,105 @@
+// The product of two numbers with digits after the point, `mul_fixed32_adapt` of mhccp.rs, and the short product of `predict_block`
+// (document 01, Colour parameters). Factors with more than 29 binary digits together are shifted first.
+ghost use mathlib.Core.Path.{_≡_};
+ghost use Prim.Native.Nat.{_≤_, _^_, _-_};
+ghost use lib.IntN.{natAbs};
+ghost use Rattle.fixed.specs.Product.{ilog2, digits, signed, near, rounded, mulFixed, limitOf};
+
+// |a|, also of i32::MIN.
+pub fn magnitude(a: i32) -> u32
+    ensures { λ r. ⌜ r ≡ natAbs a ⌝ }
+{
+    if a < 0 {
+        (0 - (a + 1)) as u32 + 1
+    } else {
+        a as u32
+    }
+}
+
+// The place of the highest set bit; 0 for 0.
+pub fn ilog2(x: u32) -> u32
+    ensures { λ r. ⌜ r ≡ ilog2 x ⌝ }
+{
+    if x == 0 {
+        return 0;
+    }
+    31 - u32::leading_zeros(x)
+}
+
+// How many binary digits |a| has: 1 to 32.
+fn digits(a: i32) -> u32
+    ensures { λ r. ⌜ (r ≡ digits a) × (r ≤ 32) ⌝ }
+{
+    ilog2(magnitude(a)) + 1
+}
+
+// n / 2 ^ k rounded to the nearest, halves up.
+pub fn nearest(n: u32, k: u32) -> u32
+    requires { ⌜ (n ≤ 2 ^ 31) × (1 ≤ k) × (k ≤ 29) ⌝ }
+    ensures { λ r. ⌜ (r ≡ near n k) × (r ≤ 2 ^ 30) ⌝ }
+{
+    (n + (1 << (k - 1))) >> k
+}
+
+// n with z's sign.
+fn with_sign(z: i32, n: u32) -> i32
+    requires { ⌜ n ≤ 2 ^ 30 ⌝ }
+    ensures { λ r. ⌜ r ≡ signed z n ⌝ }
+{
+    let q = n as i32;
+    if z < 0 { 0 - q } else { q }
+}
+
+// p / 2 ^ k rounded to the nearest, halves away from 0.
+fn rounded(p: i32, k: u32) -> i32
+    requires { ⌜ natAbs p ≤ 2 ^ 30 ⌝ }
+    ensures { λ r. ⌜ r ≡ rounded p k ⌝ }
+{
+    if k == 0 {
+        return p;
+    }
+    if 29 < k {
+        return 0;
+    }
+    with_sign(p, nearest(magnitude(p), k))
+}
+
+// a - b, and 0 where b is more.
+fn above(a: u32, b: u32) -> u32
+    ensures { λ r. ⌜ r ≡ a - b ⌝ }
+{
+    if a < b { 0 } else { a - b }
+}
+
+// a times b, shifted down by `shift` and rounded, with digits dropped first where the two have more than 29.
+pub fn mul_fixed32_adapt(a: i32, b: i32, shift: u32) -> i32
+    ensures { λ r. ⌜ r ≡ mulFixed a b shift ⌝ }
+{
+    let need = above(digits(a) + digits(b), 29);
+    let s1 = need / 2;
+    let s2 = need - s1;
+    rounded((a >> s1) * (b >> s2), above(shift, need))
+}
+
+// A second factor below this, and not negative, leaves no digit over: `mul_fixed32_fits` of mhccp.rs.
+pub fn limit(a: i32) -> u32
+    ensures { λ r. ⌜ r ≡ limitOf a ⌝ }
+{
+    let n = digits(a);
+    if n <= 28 { 1 << (29 - n) } else { 0 }
+}
+
+// "The short product in `predict_block` equals it for all factors": the product at shift 16, short where the second factor is below a's limit.
+pub fn mul_short(a: i32, b: i32, limit: u32) -> i32
+    requires { ⌜ limit ≡ limitOf a ⌝ }
+    ensures { λ r. ⌜ r ≡ mulFixed a b 16 ⌝ }
+{
+    if b < 0 {
+        return mul_fixed32_adapt(a, b, 16);
+    }
+    let n = b as u32;
+    if n < limit {
+        return with_sign(a, nearest(magnitude(a) * n, 16));
+    }
+    mul_fixed32_adapt(a, b, 16)
+}

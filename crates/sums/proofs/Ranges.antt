@@ -1,0 +1,108 @@
+-- Where a value that is needed stands, and how large the terms of a sample in range are, with D open. Assumes nothing.
+use mathlib.Core.Path.{_≡_, sym, _∙_, ap, subst}
+use mathlib.Core.Bool.{Bool, true, false, _&&_}
+use mathlib.Core.List.{List}
+use Prim.Native.Nat.{ℕ, zero, suc, _+_, _-_, _*_, _^_, _≤_, _<_}
+use native.Mathlib.Omega.{arith}
+use lib.IntN.{ℤ, pos, natAbs}
+use lib.Dec.{T}
+use lib.ListN.{getD}
+use lib.Signed.{nonNeg}
+use Rattle.numbers.specs.Depth.{bitsOf, most}
+use Rattle.numbers.specs.declared.depth.Depth.{Depth}
+use Rattle.numbers.specs.declared.depth.Depth.the-variants.{Eight, Ten, Twelve}
+use mir.Syntax.{w32}
+use mir.Val.{Fits}
+use Rattle.zint.specs.Range.{inside}
+use Rattle.zint.proofs.Range.{and-both, inside-abs, inside-pos, pos-inside}
+use Rattle.terms.specs.Terms.{entry, eighth, squared}
+use Rattle.terms.proofs.Most.{pow-le, eighth-in, squared-in, middle-most}
+use Rattle.sums.specs.declared.nine.Terms.{Terms}
+use Rattle.sums.specs.Sample.{own, behind, inRange, terms, TermsMost}
+use Rattle.sums.specs.Sum.{keep}
+
+-- the direction's luma, by its distance from the centre
+pub own-at : (direction : ℕ) (luma : List ℤ) (x y : ℕ) → 1 ≤ x → 1 ≤ y → own direction luma x y ≡ getD luma (y * 256 + x - behind direction) (pos 0)
+own-at zero luma x y hx hy = ap (λ i. getD luma i (pos 0)) (omega arith)
+own-at (suc zero) luma x y hx hy = ap (λ i. getD luma i (pos 0)) (omega arith)
+own-at (suc (suc direction)) luma x y hx hy = ap (λ i. getD luma i (pos 0)) (omega arith)
+
+pub behind-most : (direction : ℕ) → behind direction ≤ 256
+behind-most zero = omega arith
+behind-most (suc zero) = omega arith
+behind-most (suc (suc direction)) = omega arith
+
+-- and from the place where a run's centres start
+pub own-here : (direction : ℕ) (luma : List ℤ) (i y b : ℕ) → 1 ≤ y → b ≡ behind direction
+    → getD luma (y * 256 + 1 - b + i) (pos 0) ≡ own direction luma (suc i) y
+own-here direction luma i y b hy e =
+    ap (λ k. getD luma k (pos 0)) (omega (arith, behind-most direction)) ∙ sym (own-at direction luma (suc i) y (omega arith) hy)
+
+pub centre-here : (xs : List ℤ) (i y : ℕ) → getD xs (y * 256 + 1 + i) (pos 0) ≡ entry xs (suc i) y
+centre-here xs i y = ap (λ k. getD xs k (pos 0)) (omega arith)
+
+-- what refusal 13 leaves
+pub range-parts : (M : ℕ) (v c k : ℤ) → inRange M v c k ≡ true
+    → (inside (pos (8 * M + 7)) v ≡ true) × (inside (pos (8 * M + 7)) c ≡ true) × (inside (pos M) k ≡ true)
+unfolding inRange
+range-parts M v c k e =
+    let p = and-both (inside (pos (8 * M + 7)) v && inside (pos (8 * M + 7)) c) (inside (pos M) k) e in
+    let q = and-both (inside (pos (8 * M + 7)) v) (inside (pos (8 * M + 7)) c) (p .0) in
+    (q .0, q .1, p .1)
+
+-- and what is kept is in range, whether or not the sample is
+pub kept-parts : (M : ℕ) (v c k : ℤ) (t : Bool) → inRange M v c k ≡ t
+    → (inside (pos (8 * M + 7)) (keep t v) ≡ true) × (inside (pos (8 * M + 7)) (keep t c) ≡ true) × (inside (pos M) (keep t k) ≡ true)
+kept-parts M v c k true e = range-parts M v c k e
+kept-parts M v c k false e = (pos-inside _ 0 (omega arith), pos-inside _ 0 (omega arith), pos-inside _ 0 (omega arith))
+
+-- the terms of a sample in range
+module _ (D : ℕ) (v c : ℤ) (one : 1 ≤ D) (hv : inside (pos (8 * most D + 7)) v ≡ true) (hc : inside (pos (8 * most D + 7)) c ≡ true) where
+  v-in : inside (pos (most D)) (eighth v) ≡ true
+  v-in = eighth-in (most D) v hv
+
+  c-in : inside (pos (most D)) (squared D (eighth c)) ≡ true
+  c-in = squared-in D (eighth c) one (eighth-in (most D) c hc)
+
+  -- are not below 0, so that the natural numbers of the definition are the terms themselves
+  pub own-is : eighth v ≡ pos (terms D v c .own)
+  unfolding terms
+  own-is = inside-pos (most D) (eighth v) v-in
+
+  pub square-is : squared D (eighth c) ≡ pos (terms D v c .square)
+  unfolding terms
+  square-is = inside-pos (most D) (squared D (eighth c)) c-in
+
+  -- and are at most M
+  pub terms-most : TermsMost (most D) (terms D v c)
+  unfolding terms
+  terms-most = record {
+    own = inside-abs (most D) (eighth v) v-in;
+    square = inside-abs (most D) (squared D (eighth c)) c-in;
+    middle = middle-most D one;
+  }
+
+pub bits-least : (depth : Depth) → 1 ≤ bitsOf depth
+bits-least Eight = omega arith
+bits-least Ten = omega arith
+bits-least Twelve = omega arith
+
+pub bits-most : (depth : Depth) → bitsOf depth ≤ 12
+bits-most Eight = omega arith
+bits-most Ten = omega arith
+bits-most Twelve = omega arith
+
+-- every depth that there is has terms of twelve digits
+pub most-small : (D : ℕ) → D ≤ 12 → most D ≤ 4095
+most-small D h = omega (arith, pow-le {i = D} {j = 12} h)
+
+pub terms-small : (D : ℕ) (t : Terms) → D ≤ 12 → TermsMost (most D) t → TermsMost 4095 t
+terms-small D t h n = record {
+  own = omega (arith, most-small D h, n .own);
+  square = omega (arith, most-small D h, n .square);
+  middle = omega (arith, most-small D h, n .middle);
+}
+
+-- a number in 0..m, cast to an unsigned type
+pub cast-in : (m : ℕ) (z : ℤ) → m < 2 ^ 32 → inside (pos m) z ≡ true → T (nonNeg z) × Fits w32 (natAbs z)
+cast-in m z h e = (subst (λ (x : ℤ). T (nonNeg x)) (sym (inside-pos m z e)) tt, record { fits = omega (arith, inside-abs m z e) })

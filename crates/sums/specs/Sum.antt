@@ -1,0 +1,99 @@
+-- "adds to the nine sums, six of products and three with chroma; adding a sample hands the sums on" (document 01, Colour parameters): one sample
+-- more, and the sums, the count and the test of all places that count. Sums are whole numbers without a bound.
+use mathlib.Core.Path.{_≡_}
+use mathlib.Core.Bool.{Bool, true, cond, _&&_}
+use mathlib.Core.List.{List}
+use Prim.Native.Nat.{ℕ, suc, _+_, _*_, _≤_, _<_}
+use lib.IntN.{ℤ, pos, natAbs}
+use lib.ListN.{length}
+use Rattle.numbers.specs.Depth.{most}
+use Rattle.terms.specs.Terms.{stride, entry, middle}
+use Rattle.sums.specs.declared.nine.Terms.{Terms}
+use Rattle.sums.specs.declared.nine.Nine.{Nine}
+use Rattle.sums.specs.declared.gather.Gathered.{Gathered}
+use Rattle.sums.specs.declared.gather.Scale.{Scale}
+use Rattle.sums.specs.declared.window.Window.{Window}
+use Rattle.sums.specs.Sample.{own, inRange, isRead, terms}
+use Rattle.sums.specs.Places.{walk}
+
+abbrev pub none : Nine
+none = record { a00 = 0; a01 = 0; a02 = 0; a11 = 0; a12 = 0; a22 = 0; y0 = 0; y1 = 0; y2 = 0 }
+
+-- one sample more, with its terms t and its chroma y
+abbrev pub added : Nine → Terms → ℕ → Nine
+added s t y = record {
+  a00 = s .a00 + t .own * t .own;
+  a01 = s .a01 + t .own * t .square;
+  a02 = s .a02 + t .own * t .middle;
+  a11 = s .a11 + t .square * t .square;
+  a12 = s .a12 + t .square * t .middle;
+  a22 = s .a22 + t .middle * t .middle;
+  y0 = s .y0 + t .own * y;
+  y1 = s .y1 + t .square * y;
+  y2 = s .y2 + t .middle * y;
+}
+
+-- the sample at column x and row y more
+unfoldable pub oneMore : ℕ → ℕ → List ℤ → List ℤ → ℕ → ℕ → Nine → Nine
+oneMore D direction luma chroma x y s = added s (terms D (own direction luma x y) (entry luma x y)) (natAbs (entry chroma x y))
+
+-- over the places that count: the sums, how many there are, and whether all that is needed is in range
+abbrev pub sumsOf : ℕ → ℕ → List ℤ → List ℤ → Window → Nine
+sumsOf D direction luma chroma w = walk w (oneMore D direction luma chroma) none
+
+abbrev pub countOf : Window → ℕ
+countOf w = walk w (λ x y n. n + 1) 0
+
+abbrev pub isReadable : ℕ → ℕ → List ℤ → List ℤ → Window → Bool
+isReadable M direction luma chroma w = walk w (λ x y ok. ok && isRead M direction luma chroma x y) true
+
+-- what one walk over the places gathers: whether all that was met is in range, and the sums of it; a sample that is not in range is added as zeros
+abbrev pub keep : Bool → ℤ → ℤ
+keep t z = cond t z (pos 0)
+
+abbrev pub keepAdded : ℕ → Bool → ℤ → ℤ → ℤ → Nine → Nine
+keepAdded D t v c k s = added s (terms D (keep t v) (keep t c)) (natAbs (keep t k))
+
+unfoldable pub taken : ℕ → ℤ → ℤ → ℤ → Gathered → Gathered
+taken D v c k g = record { ok = g .ok && inRange (most D) v c k; sums = keepAdded D (inRange (most D) v c k) v c k (g .sums) }
+
+unfoldable pub takenAt : ℕ → ℕ → List ℤ → List ℤ → ℕ → ℕ → Gathered → Gathered
+takenAt D direction luma chroma x y g = taken D (own direction luma x y) (entry luma x y) (entry chroma x y) g
+
+abbrev pub gathered : ℕ → ℕ → List ℤ → List ℤ → Window → Gathered
+gathered D direction luma chroma w = walk w (takenAt D direction luma chroma) (record { ok = true; sums = none })
+
+-- each of the nine is at most m
+pub record NineMost (m : ℕ) (s : Nine) : Type 0 where
+  pub a00 : s .a00 ≤ m
+  pub a01 : s .a01 ≤ m
+  pub a02 : s .a02 ≤ m
+  pub a11 : s .a11 ≤ m
+  pub a12 : s .a12 ≤ m
+  pub a22 : s .a22 ≤ m
+  pub y0 : s .y0 ≤ m
+  pub y1 : s .y1 ≤ m
+  pub y2 : s .y2 ≤ m
+
+-- n places of row y from column 1 on, and those above and before them, stand in the lists
+pub record Row (y n : ℕ) (luma chroma : List ℤ) : Type 0 where
+  pub below : 1 ≤ y
+  pub small : y < 256
+  pub narrow : n < 256
+  pub luma-long : suc y * stride ≤ length luma
+  pub chroma-long : suc y * stride ≤ length chroma
+
+-- refusal 11 is not given
+pub record Laid (w : Window) (luma chroma : List ℤ) : Type 0 where
+  pub wide : w .«ref_width» ≤ 256
+  pub high : w .«ref_height» ≤ 256
+  pub luma-long : w .«ref_height» * stride ≤ length luma
+  pub chroma-long : w .«ref_height» * stride ≤ length chroma
+
+-- what a depth gives
+pub record Scaled (s : Scale) : Type 0 where
+  pub least : 1 ≤ s .d
+  pub largest : s .d ≤ 12
+  pub most-is : s .most ≡ pos (most (s .d))
+  pub top-is : s .top ≡ pos (8 * most (s .d) + 7)
+  pub middle-is : s .middle ≡ pos (middle (s .d))

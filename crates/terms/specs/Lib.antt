@@ -1,0 +1,2 @@
+-- The places of a reference list, and the terms of one sample.
+pub mod Terms
