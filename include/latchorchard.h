@@ -33,7 +33,7 @@ enum latch_answer {
     LATCH_SHORT_LIST = 9,    /* a list is shorter than the call needs */
     LATCH_BAD_COLOUR_DIRECTION = 10, /* a colour direction is above 2 */
     LATCH_BAD_REFERENCE = 11,        /* ref_width or ref_height is above 256, or a reference list is shorter than its rows */
-    LATCH_BAD_LINES = 12,            /* above_lines or left_lines is above 256 */
+    LATCH_BAD_LINES = 12,            /* above_lines or left_lines is above 256, or a block does not stand in its window */
     LATCH_BAD_COLOUR_SAMPLE = 13,    /* a luma value that is needed is not in 0..8M+7, or a chroma value not in 0..M */
     LATCH_SUM_TOO_LARGE = 14,        /* one of the nine colour sums exceeds 2147483647 */
     LATCH_BAD_PLANE = 20     /* width or height is not in 4..4096, or the plane's length is not width x height */
@@ -166,6 +166,28 @@ uint32_t latch_directional(uint16_t b, uint16_t d, uint16_t direction, uint16_t 
 uint32_t latch_derive_params(const int32_t *luma, size_t luma_len, const int32_t *chroma, size_t chroma_len,
                              size_t ref_width, size_t ref_height, size_t above_lines, size_t left_lines,
                              uint32_t direction, uint32_t d, int32_t *params, size_t params_len);
+
+/* Colour prediction of a block of width x height samples from luma and three parameters with 16 binary digits after the point.
+ * luma has rows of 256 entries; the block's first sample stands there at column left_lines and row above_lines. Each sample is
+ * p0 times the direction's luma >> 3, plus p1 times (c x c + 2^(D-1)) >> D with c the sample's own luma >> 3, plus p2 times
+ * 2^(D-1), clipped to 0..M. Direction 0 takes the sample's own luma, 1 the one above and 2 the one before; where have_top is
+ * false, the first row takes its own in direction 1, and where have_left is false, the first column in direction 2.
+ *
+ * Writes out[0..width*height-1], row by row. Lent: luma, at least ref_height x 256 entries; out, at least width x height.
+ *
+ * Refusals, in the order of checking:
+ *    2  d is none of 8, 10, 12
+ *   10  direction is above 2
+ *   11  ref_width or ref_height is above 256, or luma_len is under ref_height x 256
+ *   12  above_lines or left_lines is above 256; width or height is not in 1..128; left_lines + width > 256;
+ *       above_lines + height > ref_height; have_top with above_lines 0; have_left with left_lines 0
+ *    9  out_len is under width x height
+ *   13  a luma value that the direction needs at one of the samples, or its own, is not in 0..8M+7
+ * A refused call changes nothing; a longer out keeps its tail; the slices must not overlap. */
+uint32_t latch_predict_block(const int32_t *luma, size_t luma_len, size_t ref_width, size_t ref_height,
+                             size_t above_lines, size_t left_lines, size_t width, size_t height,
+                             bool have_top, bool have_left, uint32_t direction, uint32_t d,
+                             int32_t p0, int32_t p1, int32_t p2, int32_t *out, size_t out_len);
 
 #ifdef __cplusplus
 }

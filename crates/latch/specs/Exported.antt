@@ -15,6 +15,9 @@ use Rattle.calls.specs.Direct.{Predictor, directAnswer}
 use Rattle.sums.specs.declared.window.Window.{Window}
 use Rattle.derive.specs.Rules.{deriveAnswer}
 use Rattle.derive.specs.Derived.{windowParams, written}
+use Rattle.predict.specs.Predicted.{predictedBlock}
+use Rattle.predict.specs.Rules.{predictAnswer}
+use Rattle.predict.specs.declared.spec.Block.{Block}
 
 -- a predictor's call; named says that its mode's words name a mode
 abbrev pub PredictedByC : Bool → Predictor → ℕ → ℕ → List ℤ → List ℤ → ℤ → List Float → List Float → ℕ → Type 0
@@ -50,7 +53,7 @@ abbrev pub BuiltC : List Float → ℕ → ℕ → IntraRefSpec → Lists → Li
 BuiltC plane W H s before after r =
     Promise (answerNumber (answerFor plane W H s before)) (lent (answerFor plane W H s before) (refsOf plane W s before) before) r after
 
--- `derive_params`, whose window is given by its four sizes
+-- a window, by its four sizes
 abbrev pub window : ℕ → ℕ → ℕ → ℕ → Window
 window refWidth refHeight aboveLines leftLines = record {
   «ref_width» = refWidth;
@@ -59,8 +62,16 @@ window refWidth refHeight aboveLines leftLines = record {
   «left_lines» = leftLines;
 }
 
+-- `derive_params`
 abbrev pub DerivedC : List ℤ → List ℤ → Window → ℕ → ℕ → List ℤ → List ℤ → ℕ → Type 0
 DerivedC luma chroma w direction D before after r =
     Promise (answerNumber (deriveAnswer luma chroma w direction D (leb 3 (length before))))
     (lent (deriveAnswer luma chroma w direction D (leb 3 (length before))) (written (windowParams luma chroma w direction D) before) before)
+    r after
+
+-- `predict_block`
+abbrev pub PredictedBlockC : List ℤ → Block → ℤ → ℤ → ℤ → List ℤ → List ℤ → ℕ → Type 0
+PredictedBlockC luma b p0 p1 p2 before after r =
+    Promise (answerNumber (predictAnswer luma b (length before)))
+    (lent (predictAnswer luma b (length before)) (predictedBlock luma b p0 p1 p2 before) before)
     r after

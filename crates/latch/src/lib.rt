@@ -1,11 +1,12 @@
 // What C, C++ and Rust programs link: include/latchorchard.h declares these functions. Each takes any input, returns 0 or a refusal's number, and
 // changes nothing that it was lent when it refuses.
+pub mod colour;
+
 use edges::spec::IntraRefSpec;
-use sums::window::Window;
 ghost use Rattle.paeth.specs.Paeth.{paethAt};
 ghost use Rattle.smooth.specs.Smooth.{smoothAt, smoothVAt, smoothHAt};
 ghost use Rattle.directional.specs.Words.{isNamed, directed};
-ghost use Rattle.latch.specs.Exported.{spec, lists, BuiltC, PredictedC, PredictedByC, window, DerivedC};
+ghost use Rattle.latch.specs.Exported.{spec, lists, BuiltC, PredictedC, PredictedByC};
 
 // `edges::build_refs`, by its answer's number. The corner is an output of at least one entry.
 #[no_mangle]
@@ -136,28 +137,4 @@ pub extern "C" fn latch_directional(
         corner,
         out,
     ).number()
-}
-
-// `derive::derive_into`, by its answer's number.
-#[no_mangle]
-pub extern "C" fn latch_derive_params(
-    luma: &[i32],
-    chroma: &[i32],
-    ref_width: usize,
-    ref_height: usize,
-    above_lines: usize,
-    left_lines: usize,
-    direction: u32,
-    d: u32,
-    params: &mut [i32],
-) -> u32
-    ensures { λ r. ⌜ DerivedC (now (luma .entry)) (now (chroma .entry)) (window «ref_width» «ref_height» «above_lines» «left_lines») direction d (now (params .entry)) (now (params .exit)) r ⌝ }
-{
-    let w = Window {
-        ref_width,
-        ref_height,
-        above_lines,
-        left_lines,
-    };
-    derive::derive_into(luma, chroma, w, direction, d, params).number()
 }

@@ -1,11 +1,12 @@
--- The terms of a sample in range are in 0..M, whatever D from 1 on. Assumes nothing.
+-- The terms of luma in 0..8M+7 are in 0..M, whatever D from 1 on; and how large they are at each of the three depths. Assumes nothing.
 use mathlib.Core.Path.{_≡_, sym, subst}
 use mathlib.Core.Bool.{true}
 use Prim.Native.Nat.{ℕ, zero, suc, _+_, _-_, _*_, _/_, _^_, _≤_, _<_}
 use native.Mathlib.Omega.{arith}
 use native.Mathlib.Nat as N
 use lib.IntN.{ℤ, pos, natAbs}
-use Rattle.numbers.specs.Depth.{most}
+use Rattle.numbers.specs.Depth.{isDepth, most}
+use Rattle.numbers.proofs.Agree.{depth-all}
 use Rattle.zint.specs.Range.{inside}
 use Rattle.zint.proofs.Range.{inside-abs, inside-pos, pos-inside}
 use Rattle.terms.specs.Terms.{eighth, middle, squared}
@@ -44,3 +45,10 @@ squared-in D c h e =
     let q : (n * n + middle D) / 2 ^ D ≤ most D =
     subst (λ (k : ℕ). (n * n + middle D) / k ≤ most D) (sym P) (square-most n (middle D) (most D) (inside-abs (most D) c e) (middle-most D h)) in
     subst (λ (z : ℤ). inside (pos (most D)) (squared D z) ≡ true) (sym (inside-pos (most D) c e)) (pos-inside (most D) _ q)
+
+-- the largest D, M and 2^(D-1) of the three depths
+pub most-all : (D : ℕ) → isDepth D ≡ true → (D ≤ 12) × (most D ≤ 4095) × (middle D ≤ 2048)
+most-all D e = depth-all (λ x. (x ≤ 12) × (most x ≤ 4095) × (middle x ≤ 2048)) D (omega arith) e
+
+pub depth-some : (D : ℕ) → isDepth D ≡ true → 1 ≤ D
+depth-some D e = depth-all (λ x. 1 ≤ x) D (omega arith) e

@@ -1,8 +1,8 @@
 -- `latch_derive_params` meets its contract: the call's promise, with its answer's number. Assumes nothing.
 use borrow.Author.Needs.{needs}
 use Rattle.ladder.proofs.Promise.{numbered}
-use Rattle.latch.proofs.latch_derive_params.Statement.{statement}
-use Rattle.latch.proofs.latch_derive_params.Tie as tie
+use Rattle.latch.proofs.colour.latch_derive_params.Statement.{statement}
+use Rattle.latch.proofs.colour.latch_derive_params.Tie as tie
 
 derive-into-requires : tie.Need-derive-into-requires
 derive-into-requires c κs = search needs

@@ -1,0 +1,29 @@
+-- `half` meets its contract. Assumes nothing.
+use mathlib.Core.Path.{_≡_, refl, subst}
+use mathlib.Core.Bool.{true, false}
+use native.Mathlib.Omega.{arith}
+use lib.Dec.{T}
+use lib.IntN.{ℤ, pos, negsuc}
+use lib.Signed.{ltZ}
+use mir.Facts.{toZ-ofZ}
+use Rattle.zint.proofs.Order.{ltZ-true}
+use Rattle.predict.specs.Mixed.{halfOf}
+use Rattle.predict.proofs.mix.half.Statement.{statement}
+use Rattle.predict.proofs.mix.half.Tie as tie
+
+down : (a : ℤ) → ltZ a (pos 0) ≡ true → pos 32767 ≡ halfOf a
+down (pos n) e = absurd (omega (arith, ltZ-true (pos n) (pos 0) e))
+down (negsuc n) e = refl
+
+up : (a : ℤ) → ltZ a (pos 0) ≡ false → pos 32768 ≡ halfOf a
+up (pos n) e = refl
+up (negsuc n) e = absurd (subst T e tt)
+
+returns : tie.Need-returns
+returns c = let s = c .before in down (s .args .a) (simp (toZ-ofZ, s .fits .a) at (c .if1 .taken))
+
+returns-2 : tie.Need-returns-2
+returns-2 c = let s = c .before in up (s .args .a) (simp (toZ-ofZ, s .fits .a) at (c .if1 .left))
+
+pub half-spec : {M : Type 1} → statement M
+half-spec = tie.close (tie.spec returns returns-2)

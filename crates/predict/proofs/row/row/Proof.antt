@@ -1,0 +1,27 @@
+-- `row` meets its contract: both ways give the same row. Assumes nothing.
+use borrow.Author.Needs.{needs}
+use Rattle.predict.proofs.row.row.Statement.{statement}
+use Rattle.predict.proofs.row.row.Tie as tie
+
+short-row-requires : tie.Need-short-row-requires
+short-row-requires c κs = let s = c .before .before in (s .pre .0, s .pre .0 .short (c .before .if1 .taken), s .pre .1)
+
+any-row-requires : tie.Need-any-row-requires
+any-row-requires c κs = search needs
+
+same-length : tie.Need-same-length
+same-length c = search needs
+
+returns : tie.Need-returns
+returns c = search needs
+
+same-length-2 : tie.Need-same-length-2
+same-length-2 c = search needs
+
+returns-2 : tie.Need-returns-2
+returns-2 c = search needs
+
+pub row-spec : {M : Type 1} → statement M
+row-spec =
+    tie.close
+    (tie.spec short-row-requires any-row-requires same-length returns same-length-2 returns-2)

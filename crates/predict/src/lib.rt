@@ -1,0 +1,51 @@
+// Colour prediction, `predict_block` of mhccp.rs (document 01, Colour parameters). The public call takes any input, and tests the refusals 2, 10, 11, 12,
+// 9, 13 in that order.
+pub mod block;
+pub mod mix;
+pub mod range;
+pub mod row;
+pub mod rules;
+pub mod spec;
+pub mod value;
+
+use crate::spec::Block;
+use numbers::answer::Answer;
+use sums::window::Window;
+ghost use Rattle.predict.specs.Rules.{blockOf, PredictedBlock};
+
+// Done, with the block in out[..width * height], or a refusal, with nothing written.
+pub fn predict_block(
+    luma: &[i32],
+    sizes: Window,
+    width: usize,
+    height: usize,
+    have_top: bool,
+    have_left: bool,
+    direction: u32,
+    d: u32,
+    p0: i32,
+    p1: i32,
+    p2: i32,
+    out: &mut [i32],
+) -> Answer
+    ensures { λ r. ⌜ PredictedBlock (now (luma .entry)) (blockOf sizes width height «have_top» «have_left» direction d) p0 p1 p2 (now (out .entry)) (now (out .exit)) r ⌝ }
+{
+    let b = Block {
+        ref_width: sizes.ref_width,
+        ref_height: sizes.ref_height,
+        above_lines: sizes.above_lines,
+        left_lines: sizes.left_lines,
+        width: width,
+        height: height,
+        have_top: have_top,
+        have_left: have_left,
+        direction: direction,
+        d: d,
+    };
+    let answer = rules::refused(luma, b, out.len());
+    if !answer.is_done() {
+        return answer;
+    }
+    block::predict_into(luma, b, p0, p1, p2, out);
+    answer
+}

@@ -1,0 +1,44 @@
+// Rows of samples. Entry i of a row is from entry i of the two runs of luma: the direction's and the centre's.
+use crate::mix::Mix;
+use crate::value;
+ghost use mathlib.Core.Path.{_≡_};
+ghost use lib.ListN.{length};
+ghost use Rattle.lists.specs.Fill.{tab};
+ghost use Rattle.predict.specs.Mixed.{Ready, Short, mixed};
+ghost use Rattle.predict.specs.Lines.{at, Runs};
+
+// A row of a block whose products are all short: no branch inside.
+fn short_row(near: &[i32], centre: &[i32], k: Mix, row: &mut [i32])
+    requires { ⌜ Ready k × Short k × Runs k (now near) (now centre) (length (now row)) ⌝ }
+    ensures { λ _. ⌜ now (row .exit) ≡ tab (length (now (row .entry))) (λ i. mixed k (at (now (near .entry)) i) (at (now (centre .entry)) i)) ⌝ }
+{
+    let mut i = 0;
+    while i < row.len() {
+        row[i] = value::short_sample(near[i], centre[i], k);
+        i += 1;
+    }
+}
+
+// A row of any block.
+fn any_row(near: &[i32], centre: &[i32], k: Mix, row: &mut [i32])
+    requires { ⌜ Ready k × Runs k (now near) (now centre) (length (now row)) ⌝ }
+    ensures { λ _. ⌜ now (row .exit) ≡ tab (length (now (row .entry))) (λ i. mixed k (at (now (near .entry)) i) (at (now (centre .entry)) i)) ⌝ }
+{
+    let mut i = 0;
+    while i < row.len() {
+        row[i] = value::any_sample(near[i], centre[i], k);
+        i += 1;
+    }
+}
+
+// The row, by the product that serves.
+pub fn row(near: &[i32], centre: &[i32], k: Mix, row: &mut [i32])
+    requires { ⌜ Ready k × Runs k (now near) (now centre) (length (now row)) ⌝ }
+    ensures { λ _. ⌜ now (row .exit) ≡ tab (length (now (row .entry))) (λ i. mixed k (at (now (near .entry)) i) (at (now (centre .entry)) i)) ⌝ }
+{
+    if k.short {
+        short_row(near, centre, k, row);
+    } else {
+        any_row(near, centre, k, row);
+    }
+}
