@@ -1,6 +1,7 @@
 // The reciprocal of a natural number, `division_scale_shift` of mhccp.rs (document 01, Colour parameters): a curve of eight pieces, each with a
 // square.
 use crate::product;
+use std::num;
 ghost use mathlib.Core.Path.{_≡_};
 ghost use Prim.Native.Nat.{_≤_, _<_, _^_, min, max};
 ghost use lib.IntN.{natAbs};
@@ -34,7 +35,7 @@ fn curve(n: u32) -> i32
 
 // d's highest bit, at place s, moved to place 14.
 fn moved(d: u32, s: u32) -> u32
-    requires { ⌜ (1 ≤ d) × (d ≤ 2 ^ 31) × (s ≡ ilog2 d) ⌝ }
+    requires { ⌜ s ≡ ilog2 d ⌝ }
     ensures { λ r. ⌜ r ≡ moved d s ⌝ }
 {
     if s < 14 {
@@ -43,7 +44,7 @@ fn moved(d: u32, s: u32) -> u32
     if s == 14 {
         return d;
     }
-    product::nearest(d, s - 14)
+    num::wrapping_add_u32(d, 1 << (s - 15)) >> (s - 14)
 }
 
 // n, or the bound that it passes.
@@ -66,9 +67,8 @@ pub struct Scale {
     pub shift: u32,
 }
 
-// d's reciprocal, nearly.
+// d's reciprocal, nearly; that of 0 as of 1.
 pub fn division_scale_shift(d: u32) -> Scale
-    requires { ⌜ (1 ≤ d) × (d ≤ 2 ^ 31) ⌝ }
     ensures { λ r. ⌜ (r .scale ≡ scaleOf d) × (r .shift ≡ ilog2 d) ⌝ }
 {
     let shift = product::ilog2(d);

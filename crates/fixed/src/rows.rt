@@ -25,7 +25,7 @@ pub struct Pair {
 
 // |p|, or 1 for 0.
 fn pivot(p: i32) -> u32
-    ensures { λ r. ⌜ (r ≡ pivot p) × (1 ≤ r) × (r ≤ 2 ^ 31) ⌝ }
+    ensures { λ r. ⌜ r ≡ pivot p ⌝ }
 {
     let d = product::magnitude(p);
     if d < 1 { 1 } else { d }

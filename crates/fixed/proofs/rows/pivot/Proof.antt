@@ -1,9 +1,7 @@
 -- `pivot` meets its contract. Assumes nothing.
 use mathlib.Core.Path.{_≡_}
-use Prim.Native.Nat.{_≤_, _^_}
 use native.Mathlib.Omega.{arith}
 use lib.IntN.{natAbs}
-use lib.Signed.{natAbs-le}
 use mir.Syntax.{w32}
 use borrow.Author.Needs.{needs}
 use Rattle.zint.proofs.Bound.{back}
@@ -20,14 +18,11 @@ module _ (c : tie.After-magnitude) where
   is : c .magnitude .result ≡ natAbs (s .args .p)
   is = simp (back w32 (s .fits .p)) at (c .magnitude .ensures)
 
-  most : natAbs (s .args .p) ≤ 2 ^ 31
-  most = natAbs-le (s .args .p) (s .fits .p .sfits)
-
 returns : tie.Need-returns
-returns c = omega (arith, is (c .before), most (c .before))
+returns c = omega (arith, is (c .before))
 
 returns-2 : tie.Need-returns-2
-returns-2 c = omega (arith, is (c .before), most (c .before))
+returns-2 c = omega (arith, is (c .before))
 
 pub pivot-spec : {M : Type 1} → statement M
 pivot-spec = tie.close (tie.spec magnitude-requires returns returns-2)

@@ -18,7 +18,7 @@ division-scale-shift-requires c κs = search needs
 returns : tie.Need-returns
 returns c =
     let p = c .before in
-    let d : p .pivot .result ≡ pivot (p .before .args .p) = simp (back w32 (p .before .fits .p)) at (p .pivot .ensures .0) in
+    let d : p .pivot .result ≡ pivot (p .before .args .p) = simp (back w32 (p .before .fits .p)) at (p .pivot .ensures) in
     (c .division-scale-shift .ensures .0 ∙ ap scaleOf d, c .division-scale-shift .ensures .1 ∙ ap ilog2 d)
 
 pub reciprocal-spec : {M : Type 1} → statement M
