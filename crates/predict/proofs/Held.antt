@@ -5,20 +5,18 @@ use Prim.Native.Nat.{ℕ, _≤_, _^_}
 use native.Mathlib.Omega.{arith}
 use lib.IntN.{ℤ, pos, negsuc, natAbs}
 use mir.Syntax.{w32}
-use mir.Val.{toZ, ofZ, SFits}
+use mir.Val.{SFits}
 use Rattle.numbers.specs.Depth.{most}
 use Rattle.zint.specs.Range.{inside}
 use Rattle.zint.proofs.Bound.{back-abs, sfits-abs}
 use Rattle.zint.proofs.Range.{inside-abs, inside-pos, inside-more}
 use Rattle.fixed.specs.Product.{mulFixed}
 use Rattle.fixed.proofs.Bounds.{mul-pos}
+use Rattle.fixed.proofs.Calls.{thru}
 use Rattle.terms.specs.Terms.{eighth, squared}
 use Rattle.terms.proofs.Most.{most-all, depth-some, eighth-in, squared-in}
 use Rattle.predict.specs.Mixed.{halfOf, Ready, Luma}
 use Rattle.predict.specs.declared.mix.Mix.{Mix}
-
-abbrev pub thru : ℤ → ℤ
-thru z = toZ w32 (ofZ w32 z)
 
 pub half-small : (a : ℤ) → natAbs (halfOf a) ≤ 32768
 half-small (pos n) = omega arith

@@ -1,15 +1,15 @@
 // What is worked out once for a block: its depth's numbers, the parameters, and which product serves (document 01, Colour parameters).
 use fixed::product;
-use numbers::depth::Depth;
 use numbers::depth::FoundDepth;
 ghost use mathlib.Core.Path.{_≡_};
 ghost use mathlib.Core.Bool.{true, _&&_};
 ghost use lib.Dec.{ltb};
 ghost use lib.IntN.{pos};
-ghost use Rattle.numbers.specs.Depth.{depthOf, isDepth, most};
+ghost use Rattle.numbers.specs.Depth.{isDepth, most};
 ghost use Rattle.predict.specs.Mixed.{halfOf, Ready, MixOf};
 
-// Short says that every second factor of the block is below both limits, so that the short product serves.
+// bits is D, mid 2^(D-1) and max M. third is what the third term gives, and half0 and half1 round the products by p0 and p1. short says that every
+// second factor of the block is below both limits, so that the short product serves.
 pub struct Mix {
     pub bits: u32,
     pub mid: i32,
@@ -24,28 +24,18 @@ pub struct Mix {
     pub short: bool,
 }
 
-// The depth whose D the number is.
-pub fn depth_of(d: u32) -> FoundDepth
-    ensures { λ r. ⌜ r ≡ depthOf d ⌝ }
-{
-    if 12 < d {
-        return FoundDepth::NoDepth;
-    }
-    Depth::of(d as u16)
-}
-
-// M.
+// M of the depth whose D is d.
 fn max_of(d: u32) -> i32
     requires { ⌜ isDepth d ≡ true ⌝ }
     ensures { λ r. ⌜ r ≡ pos (most d) ⌝ }
 {
-    let FoundDepth::Is(depth) = depth_of(d) else {
+    let FoundDepth::Is(depth) = terms::depth_of(d) else {
         return 0;
     };
     depth.max()
 }
 
-// What rounds a product by a.
+// What rounds a product by a to the nearest, before a shift by 16.
 fn half(a: i32) -> i32
     ensures { λ r. ⌜ r ≡ halfOf a ⌝ }
 {
@@ -60,6 +50,7 @@ fn is_below(m: u32, limit0: u32, limit1: u32) -> bool
 }
 
 impl Mix {
+    // What a block of depth d with these parameters needs; mid is half of M + 1.
     pub fn of(d: u32, p0: i32, p1: i32, p2: i32) -> Mix
         requires { ⌜ isDepth d ≡ true ⌝ }
         ensures { λ r. ⌜ Ready r × MixOf d p0 p1 p2 r ⌝ }

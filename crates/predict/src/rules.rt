@@ -1,5 +1,4 @@
 // The tests of a colour prediction, 2, 10, 11, 12, 9, 13 (document 01, Refusal numbers).
-use crate::mix;
 use crate::range;
 use crate::spec::Block;
 use numbers::answer::Answer;
@@ -82,7 +81,7 @@ fn has_neighbours(b: Block) -> bool
 pub fn refused(luma: &[i32], b: Block, n: usize) -> Answer
     ensures { λ r. ⌜ r ≡ predictAnswer (now (luma .entry)) b n ⌝ }
 {
-    let FoundDepth::Is(depth) = mix::depth_of(b.d) else {
+    let FoundDepth::Is(depth) = terms::depth_of(b.d) else {
         return Answer::BadDepth;
     };
     if 2 < b.direction {

@@ -1,21 +1,32 @@
-// "Terms: the direction's luma >> 3, (c x c + 2^(D-1)) >> D, and 2^(D-1)." (document 01, Colour parameters)
+// "Terms: the direction's luma >> 3, (c x c + 2^(D-1)) >> D, and 2^(D-1)." (document 01, Colour parameters): what derivation and prediction share.
 use numbers::depth::Depth;
+use numbers::depth::FoundDepth;
 ghost use mathlib.Core.Path.{_≡_};
 ghost use mathlib.Core.Bool.{true};
 ghost use Prim.Native.Nat.{_≤_};
 ghost use lib.IntN.{pos};
-ghost use Rattle.numbers.specs.Depth.{bitsOf};
+ghost use Rattle.numbers.specs.Depth.{bitsOf, depthOf};
 ghost use Rattle.zint.specs.Range.{inside};
 ghost use Rattle.terms.specs.Terms.{eighth, middle, squared};
 
-// A luma value without its last three binary digits.
+// The depth whose D is d.
+pub fn depth_of(d: u32) -> FoundDepth
+    ensures { λ r. ⌜ r ≡ depthOf d ⌝ }
+{
+    if 12 < d {
+        return FoundDepth::NoDepth;
+    }
+    Depth::of(d as u16)
+}
+
+// A luma value without its last three binary digits: "luma >> 3".
 pub fn eighth(v: i32) -> i32
     ensures { λ r. ⌜ r ≡ eighth v ⌝ }
 {
     v >> 3
 }
 
-// The square of c with the middle of the range added, at depth `bits`.
+// "(c x c + 2^(D-1)) >> D", `non_linear` of mhccp.rs, of a c in 0..4095; bits is D, and mid 2^(D-1).
 pub fn squared(c: i32, mid: i32, bits: u32) -> i32
     requires { ⌜ (inside (pos 4095) c ≡ true) × (mid ≡ pos (middle bits)) × (bits ≤ 12) ⌝ }
     ensures { λ r. ⌜ r ≡ squared bits c ⌝ }
@@ -23,7 +34,7 @@ pub fn squared(c: i32, mid: i32, bits: u32) -> i32
     (c * c + mid) >> bits
 }
 
-// The middle of a depth's range.
+// 2^(D-1), the middle of a depth's range.
 pub fn middle(depth: Depth) -> i32
     ensures { λ r. ⌜ r ≡ pos (middle (bitsOf depth)) ⌝ }
 {

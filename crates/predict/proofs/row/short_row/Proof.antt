@@ -9,9 +9,10 @@ use mir.Syntax.{w32}
 use Rattle.lists.specs.Fill.{filled}
 use Rattle.lists.proofs.Fill.{filled-none, filled-more, filled-all}
 use Rattle.zint.proofs.Bound.{back}
+use Rattle.fixed.proofs.Calls.{thru}
 use Rattle.predict.specs.Mixed.{Luma, mixed}
 use Rattle.predict.specs.Lines.{at}
-use Rattle.predict.proofs.Held.{thru, luma-back}
+use Rattle.predict.proofs.Held.{luma-back}
 use Rattle.predict.proofs.row.short_row.Statement.{statement}
 use Rattle.predict.proofs.row.short_row.Tie as tie
 

@@ -17,10 +17,10 @@ use Rattle.zint.proofs.Bound.{back, back-abs, sfits-abs}
 use Rattle.zint.proofs.Range.{and-both}
 use Rattle.fixed.specs.Product.{mulFixed}
 use Rattle.fixed.proofs.Bounds.{mul-pos}
+use Rattle.fixed.proofs.Calls.{thru}
 use Rattle.terms.specs.Terms.{middle}
 use Rattle.terms.proofs.Most.{most-all}
 use Rattle.predict.specs.Predicted.{thirdOf}
-use Rattle.predict.proofs.Held.{thru}
 use Rattle.predict.proofs.mix.Mix.of.Statement.{statement}
 use Rattle.predict.proofs.mix.Mix.of.Tie as tie
 

@@ -2,8 +2,8 @@
 use borrow.Author.Needs.{needs}
 use borrow.Author.Tests.{ne-eqb}
 use native.Mathlib.Omega.{arith}
-use Rattle.predict.proofs.mix.depth_of.Statement.{statement}
-use Rattle.predict.proofs.mix.depth_of.Tie as tie
+use Rattle.terms.proofs.depth_of.Statement.{statement}
+use Rattle.terms.proofs.depth_of.Tie as tie
 
 returns : tie.Need-returns
 returns c =
