@@ -29,7 +29,7 @@ limit-none a h = simp (lt-leb (digits a) 28 h)
 pow-below : (i k : ℕ) → 2 ^ i < 2 ^ k → i < k
 pow-below i k h = ⊎-elim (λ (l : k ≤ i). let g = pow-le {i = k} {j = i} l in absurd (omega arith)) (λ l. l) (either k i)
 
-digits-few : (n k : ℕ) → 1 ≤ k → n < 2 ^ k → n < 2 ^ 32 → digits (pos n) ≤ k
+pub digits-few : (n k : ℕ) → 1 ≤ k → n < 2 ^ k → n < 2 ^ 32 → digits (pos n) ≤ k
 unfolding digits
 digits-few n k h l m =
     ⊎-elim (λ (z : n ≡ 0). omega (arith, ap ilog2 z ∙ ilog2-zero))

@@ -1,8 +1,10 @@
-// The product of two numbers with digits after the point, `mul_fixed32_adapt` of mhccp.rs, and the short product of `predict_block`
-// (document 01, Colour parameters). Factors with more than 29 binary digits together are shifted first.
+// The product of two numbers with digits after the point, `mul_fixed32_adapt` of mhccp.rs (document 01, Colour parameters). Factors with more than 29
+// binary digits together are shifted first. `limit` tells where none is shifted, and `mul_wide` is the product by a small second factor.
 ghost use mathlib.Core.Path.{_≡_};
 ghost use Prim.Native.Nat.{_≤_, _^_, _-_};
-ghost use lib.IntN.{natAbs};
+ghost use mathlib.Core.Bool.{true};
+ghost use lib.IntN.{pos, natAbs};
+ghost use Rattle.zint.specs.Range.{inside};
 ghost use Rattle.fixed.specs.Product.{ilog2, digits, signed, near, rounded, mulFixed, limitOf};
 
 // |a|, also of i32::MIN.
@@ -27,7 +29,7 @@ pub fn ilog2(x: u32) -> u32
 }
 
 // How many binary digits |a| has: 1 to 32.
-fn digits(a: i32) -> u32
+pub fn digits(a: i32) -> u32
     ensures { λ r. ⌜ (r ≡ digits a) × (r ≤ 32) ⌝ }
 {
     ilog2(magnitude(a)) + 1
@@ -81,25 +83,30 @@ pub fn mul_fixed32_adapt(a: i32, b: i32, shift: u32) -> i32
     rounded((a >> s1) * (b >> s2), above(shift, need))
 }
 
+// p / 2 ^ k rounded to the nearest, halves away from 0, with no branch.
+fn away(p: i32, k: u32) -> i32
+    requires { ⌜ (natAbs p ≤ 2 ^ 30) × (1 ≤ k) × (k ≤ 16) ⌝ }
+    ensures { λ r. ⌜ r ≡ rounded p k ⌝ }
+{
+    let half: u32 = 1 << (k - 1);
+    (p + half as i32 + (p >> 31)) >> k
+}
+
+// The product at shift 16 by a b in 0..4095, where n is how many digits a has: at most 15 digits are over, so that one is left to round by.
+pub fn mul_wide(a: i32, n: u32, b: i32) -> i32
+    requires { ⌜ (n ≡ digits a) × (inside (pos 4095) b ≡ true) ⌝ }
+    ensures { λ r. ⌜ r ≡ mulFixed a b 16 ⌝ }
+{
+    let need = above(n + ilog2(b as u32) + 1, 29);
+    let s1 = need / 2;
+    let s2 = need - s1;
+    away((a >> s1) * (b >> s2), 16 - need)
+}
+
 // A second factor below this, and not negative, leaves no digit over: `mul_fixed32_fits` of mhccp.rs.
 pub fn limit(a: i32) -> u32
     ensures { λ r. ⌜ r ≡ limitOf a ⌝ }
 {
     let n = digits(a);
     if n <= 28 { 1 << (29 - n) } else { 0 }
-}
-
-// "The short product in `predict_block` equals it for all factors": the product at shift 16, short where the second factor is below a's limit.
-pub fn mul_short(a: i32, b: i32, limit: u32) -> i32
-    requires { ⌜ limit ≡ limitOf a ⌝ }
-    ensures { λ r. ⌜ r ≡ mulFixed a b 16 ⌝ }
-{
-    if b < 0 {
-        return mul_fixed32_adapt(a, b, 16);
-    }
-    let n = b as u32;
-    if n < limit {
-        return with_sign(a, nearest(magnitude(a) * n, 16));
-    }
-    mul_fixed32_adapt(a, b, 16)
 }

@@ -60,6 +60,10 @@ module _ (k : Mix) (r : Ready k) where
     squared-inside : inside (pos (most (k .bits))) (squared (k .bits) (eighth v)) ≡ true
     squared-inside = squared-in (k .bits) (eighth v) (depth-some (k .bits) (r .depth)) eighth-inside
 
+    -- what the wide product asks
+    pub squared-twelve : inside (pos 4095) (squared (k .bits) (eighth v)) ≡ true
+    squared-twelve = inside-more _ 4095 (most-all (k .bits) (r .depth) .1) (squared (k .bits) (eighth v)) squared-inside
+
     pub squared-small : natAbs (squared (k .bits) (eighth v)) ≤ most (k .bits)
     squared-small = inside-abs _ _ squared-inside
 

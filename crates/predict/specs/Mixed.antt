@@ -5,7 +5,7 @@ use mathlib.Core.Bool.{true}
 use lib.IntN.{ℤ, pos, negsuc, natAbs}
 use Rattle.numbers.specs.Depth.{isDepth, most}
 use Rattle.zint.specs.Range.{inside}
-use Rattle.fixed.specs.Product.{limitOf}
+use Rattle.fixed.specs.Product.{digits, limitOf}
 use Rattle.terms.specs.Terms.{middle}
 use Rattle.predict.specs.Predicted.{total, thirdOf, clipped}
 use Rattle.predict.specs.declared.mix.Mix.{Mix}
@@ -27,8 +27,8 @@ pub record Ready (k : Mix) : Type 0 where
   pub third : natAbs (k .third) ≤ 2 ^ 29
   pub half0 : k .half0 ≡ halfOf (k .p0)
   pub half1 : k .half1 ≡ halfOf (k .p1)
-  pub limit0 : k .limit0 ≡ limitOf (k .p0)
-  pub limit1 : k .limit1 ≡ limitOf (k .p1)
+  pub digits0 : k .digits0 ≡ digits (k .p0)
+  pub digits1 : k .digits1 ≡ digits (k .p1)
   pub short : k .short ≡ true → Short k
 
 -- it is made of these

@@ -8,7 +8,7 @@ ghost use lib.IntN.{pos};
 ghost use Rattle.numbers.specs.Depth.{isDepth, most};
 ghost use Rattle.predict.specs.Mixed.{halfOf, Ready, MixOf};
 
-// bits is D, mid 2^(D-1) and max M. third is what the third term gives, and half0 and half1 round the products by p0 and p1. short says that every
+// bits is D, mid 2^(D-1) and max M. third is what the third term gives, and half0 and half1 round the products by p0 and p1, which have digits0 and digits1 binary digits. short says that every
 // second factor of the block is below both limits, so that the short product serves.
 pub struct Mix {
     pub bits: u32,
@@ -19,8 +19,8 @@ pub struct Mix {
     pub third: i32,
     pub half0: i32,
     pub half1: i32,
-    pub limit0: u32,
-    pub limit1: u32,
+    pub digits0: u32,
+    pub digits1: u32,
     pub short: bool,
 }
 
@@ -69,8 +69,8 @@ impl Mix {
             third: third,
             half0: half(p0),
             half1: half(p1),
-            limit0: limit0,
-            limit1: limit1,
+            digits0: product::digits(p0),
+            digits1: product::digits(p1),
             short: is_below(m as u32, limit0, limit1),
         }
     }

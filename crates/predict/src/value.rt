@@ -54,7 +54,7 @@ pub fn any_sample(n: i32, c: i32, k: Mix) -> i32
 {
     let e = terms::eighth(n);
     let s = terms::squared(terms::eighth(c), k.mid, k.bits);
-    let x = product::mul_short(k.p0, e, k.limit0);
-    let y = product::mul_short(k.p1, s, k.limit1);
+    let x = product::mul_wide(k.p0, k.digits0, e);
+    let y = product::mul_wide(k.p1, k.digits1, s);
     sum(x, y, k)
 }

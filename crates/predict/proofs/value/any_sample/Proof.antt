@@ -12,7 +12,7 @@ use Rattle.fixed.proofs.Calls.{thru}
 use Rattle.terms.specs.Terms.{eighth, squared}
 use Rattle.terms.proofs.Most.{most-all}
 use Rattle.predict.specs.Predicted.{total, clipped}
-use Rattle.predict.proofs.Held.{mid=, eighth-twelve, eighth-small, eighth-pos, squared-small, squared-pos, product-small}
+use Rattle.predict.proofs.Held.{mid=, eighth-twelve, eighth-small, eighth-pos, squared-twelve, squared-small, squared-pos, product-small}
 use Rattle.predict.proofs.value.any_sample.Statement.{statement}
 use Rattle.predict.proofs.value.any_sample.Tie as tie
 
@@ -68,15 +68,19 @@ module _ (c : tie.After-struct-told3) where
   p1= : thru (s1 .args .k .p1) ≡ s1 .args .k .p1
   p1= = back w32 p1-fits
 
-mul-short-requires : tie.Need-mul-short-requires
-mul-short-requires c κs = simp (p0= c) (s0 c .pre .0 .limit0)
+mul-wide-requires : tie.Need-mul-wide-requires
+mul-wide-requires c κs =
+    let s = s0 c in
+    simp (p0= c, n= (t (c .before))) (s .pre .0 .digits0, eighth-twelve (s .args .k) (s .pre .0) (s .args .n) (s .pre .1))
 
-mul-short-requires-2 : tie.Need-mul-short-requires-2
-mul-short-requires-2 c κs = simp (p1= c) (s1 c .pre .0 .limit1)
+mul-wide-requires-2 : tie.Need-mul-wide-requires-2
+mul-wide-requires-2 c κs =
+    let s = s1 c in
+    simp (p1= c, s= (c .before .before .before)) (s .pre .0 .digits1, squared-twelve (s .args .k) (s .pre .0) (s .args .c) (s .pre .2))
 
 -- what the products gave
-module _ (c : tie.After-mul-short2) where
-  abbrev m : tie.After-mul-short
+module _ (c : tie.After-mul-wide2) where
+  abbrev m : tie.After-mul-wide
   m = c .before .before
 
   abbrev q : tie.After-squared
@@ -85,26 +89,26 @@ module _ (c : tie.After-mul-short2) where
   abbrev u : tie.Start
   u = s (t q)
 
-  x= : thru (m .mul-short .result) ≡ mulFixed (u .args .k .p0) (eighth (u .args .n)) 16
+  x= : thru (m .mul-wide .result) ≡ mulFixed (u .args .k .p0) (eighth (u .args .n)) 16
   x= =
-      back w32 {z = m .mul-short .result} (sfits-of (m .mul-short .ok))
-      ∙ m .mul-short .ensures
+      back w32 {z = m .mul-wide .result} (sfits-of (m .mul-wide .ok))
+      ∙ m .mul-wide .ensures
       ∙ (λ j. mulFixed (p0= (m .before) j) (n= (t q) j) 16)
 
-  y= : thru (c .mul-short2 .result) ≡ mulFixed (u .args .k .p1) (squared (u .args .k .bits) (eighth (u .args .c))) 16
+  y= : thru (c .mul-wide2 .result) ≡ mulFixed (u .args .k .p1) (squared (u .args .k .bits) (eighth (u .args .c))) 16
   y= =
-      back w32 {z = c .mul-short2 .result} (sfits-of (c .mul-short2 .ok))
-      ∙ c .mul-short2 .ensures
+      back w32 {z = c .mul-wide2 .result} (sfits-of (c .mul-wide2 .ok))
+      ∙ c .mul-wide2 .ensures
       ∙ (λ j. mulFixed (p1= (c .before) j) (s= q j) 16)
 
-  x-small : natAbs (thru (m .mul-short .result)) ≤ 2 ^ 29
+  x-small : natAbs (thru (m .mul-wide .result)) ≤ 2 ^ 29
   x-small =
       let k = u .args .k in
       let l = u .pre .1 in
       subst (λ z. natAbs z ≤ 2 ^ 29) (sym x=)
       (product-small k (u .pre .0) (k .p0) (eighth (u .args .n)) (p0-fits (m .before)) (eighth-small k (u .pre .0) (u .args .n) l) (eighth-pos k (u .pre .0) (u .args .n) l))
 
-  y-small : natAbs (thru (c .mul-short2 .result)) ≤ 2 ^ 29
+  y-small : natAbs (thru (c .mul-wide2 .result)) ≤ 2 ^ 29
   y-small =
       let k = u .args .k in
       let l = u .pre .2 in
@@ -129,7 +133,7 @@ any-sample-spec =
     eighth-requires
     eighth-requires-2
     squared-requires
-    mul-short-requires
-    mul-short-requires-2
+    mul-wide-requires
+    mul-wide-requires-2
     sum-requires
     returns)
