@@ -1,6 +1,7 @@
 -- "The short product in `predict_block` equals it for all factors" (document 01, Colour parameters): with a second factor below the limit no digit is
--- over, so the product is rounded as it is. Assumes nothing.
+-- over, so the product is rounded as it is; and how many are over with a factor in 0..4095. Assumes nothing.
 use mathlib.Core.Path.{_≡_, refl, sym, ap, ap₂, _∙_, subst}
+use mathlib.Core.Bool.{true}
 use mathlib.Core.Logic.{_⊎_, inl, inr, ⊎-elim}
 use Prim.Native.Nat.{ℕ, zero, suc, _+_, _-_, _*_, _/_, _^_, _≤_, _<_}
 use native.Mathlib.Omega.{arith}
@@ -11,6 +12,8 @@ use lib.Signed.{shrZ}
 use mir.Syntax.{w32}
 use mir.Val.{SFits}
 use borrow.Author.Tests.{le-leb, lt-leb}
+use Rattle.zint.specs.Range.{inside}
+use Rattle.zint.proofs.Range.{inside-abs, inside-pos}
 use Rattle.zint.proofs.Bound.{abs-times}
 use Rattle.fixed.specs.Product.{ilog2, digits, over, narrow, signed, near, rounded, mulFixed, limitOf}
 use Rattle.fixed.proofs.Shift.{either, pow-le, ilog2-is, ilog2-zero}
@@ -29,11 +32,21 @@ limit-none a h = simp (lt-leb (digits a) 28 h)
 pow-below : (i k : ℕ) → 2 ^ i < 2 ^ k → i < k
 pow-below i k h = ⊎-elim (λ (l : k ≤ i). let g = pow-le {i = k} {j = i} l in absurd (omega arith)) (λ l. l) (either k i)
 
-pub digits-few : (n k : ℕ) → 1 ≤ k → n < 2 ^ k → n < 2 ^ 32 → digits (pos n) ≤ k
+digits-few : (n k : ℕ) → 1 ≤ k → n < 2 ^ k → n < 2 ^ 32 → digits (pos n) ≤ k
 unfolding digits
 digits-few n k h l m =
     ⊎-elim (λ (z : n ≡ 0). omega (arith, ap ilog2 z ∙ ilog2-zero))
     (λ (p : 0 < n). let g = ilog2-is n p m .0 .low in omega (arith, pow-below (ilog2 n) k (N.lt-of-le-of-lt g l))) (N.eq-zero-or-pos n)
+
+-- a factor in 0..4095 has at most 12 digits, so that at most 15 are over
+pub over-few : (a b : ℤ) → SFits w32 a → inside (pos 4095) b ≡ true → over a b ≤ 15
+unfolding over
+over-few a b f e =
+    let n = natAbs b in
+    let l : n ≤ 4095 = inside-abs 4095 b e in
+    let d : digits b ≤ 12 =
+    subst (λ (z : ℤ). digits z ≤ 12) (sym (inside-pos 4095 b e)) (digits-few n 12 (omega arith) (omega arith) (omega arith)) in
+    omega (arith, digits-of a f .all)
 
 shr-one : (z : ℤ) → shrZ z 1 ≡ z
 shr-one (pos n) = ap pos (N.div-one n)

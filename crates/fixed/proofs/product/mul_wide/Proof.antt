@@ -1,9 +1,8 @@
 -- `mul_wide` meets its contract: a factor below 2 ^ 12 leaves a digit to round by. Assumes nothing.
 use mathlib.Core.Path.{_≡_, sym, ap, _∙_, subst}
-use mathlib.Core.Bool.{true}
-use Prim.Native.Nat.{ℕ, suc, _+_, _-_, _/_, _^_, _≤_, _<_}
+use Prim.Native.Nat.{ℕ, _+_, _-_, _/_, _^_, _≤_}
 use native.Mathlib.Omega.{arith}
-use lib.IntN.{ℤ, pos, natAbs}
+use lib.IntN.{ℤ, natAbs}
 use lib.Dec.{T}
 use lib.Signed.{shrZ, nonNeg}
 use mir.Syntax.{w32}
@@ -11,10 +10,10 @@ use mir.Val.{SFits, Fits}
 use borrow.Author.Needs.{needs, sfits-of}
 use Rattle.zint.proofs.Range.{inside-abs, inside-pos}
 use Rattle.zint.proofs.Bound.{back}
-use Rattle.fixed.specs.Product.{ilog2, digits, over, narrow, mulFixed}
+use Rattle.fixed.specs.Product.{digits, over, narrow, mulFixed}
 use Rattle.fixed.proofs.Shift.{shr-fits, ilog2-le}
 use Rattle.fixed.proofs.Bounds.{digits-of, narrow-30, narrow-fits}
-use Rattle.fixed.proofs.Short.{digits-few}
+use Rattle.fixed.proofs.Short.{over-few}
 use Rattle.fixed.proofs.Calls.{thru}
 use Rattle.fixed.proofs.product.mul_wide.Statement.{statement}
 use Rattle.fixed.proofs.product.mul_wide.Tie as tie
@@ -26,20 +25,9 @@ module _ (s : tie.Start) where
   abbrev b : ℤ
   b = s .args .b
 
-  -- at most 12 digits
-  few : digits b ≤ 12
-  few =
-      let n = natAbs b in
-      let l : n ≤ 4095 = inside-abs 4095 b (s .pre .1) in
-      subst (λ (z : ℤ). digits z ≤ 12) (sym (inside-pos 4095 b (s .pre .1))) (digits-few n 12 (omega arith) (omega arith) (omega arith))
-
-  -- a has at most 32
+  -- a has at most 32 digits
   n-most : s .args .n ≤ 32
   n-most = omega (arith, s .pre .0, digits-of a (s .fits .a) .all)
-
-  most : over a b ≤ 15
-  unfolding over
-  most = omega (arith, few, digits-of a (s .fits .a) .all)
 
 module _ (c : tie.After-above) where
   abbrev t : tie.Start
@@ -54,7 +42,7 @@ module _ (c : tie.After-above) where
   need = omega (arith, c .above .ensures, t .pre .0, b-digits)
 
   few-over : c .above .result ≤ 15
-  few-over = omega (arith, need, most t)
+  few-over = omega (arith, need, over-few (a t) (b t) (t .fits .a) (t .pre .1))
 
   fa : SFits w32 (shrZ (a t) (2 ^ (over (a t) (b t) / 2)))
   fa = shr-fits (a t) _ (t .fits .a)
