@@ -22,25 +22,29 @@ extern "C" {
 
 /* The answers of the calls below. */
 enum latch_answer {
-    LATCH_DONE = 0,          /* the work is done */
-    LATCH_BAD_SIZE = 1,      /* B is none of 4, 8, 16, 32, 64 */
-    LATCH_BAD_DEPTH = 2,     /* D is none of 8, 10, 12 */
-    LATCH_BAD_MODE = 3,      /* a direction above 7, a delta word above 6, or a stray flag bit */
-    LATCH_OUTSIDE_PLANE = 4, /* x + B > width or y + B > height */
-    LATCH_NO_NEIGHBOUR = 5,  /* a neighbour that is said to be there is not in the plane */
-    LATCH_BAD_BASE = 6,      /* neither neighbour is there, and base is not in 1..M-1 */
-    LATCH_BAD_SAMPLE = 8,    /* a sample or edge entry that is read is not a number in 0..M */
-    LATCH_SHORT_LIST = 9,    /* a list is shorter than the call needs */
-    LATCH_BAD_COLOUR_DIRECTION = 10, /* a colour direction is above 2 */
-    LATCH_BAD_REFERENCE = 11,        /* ref_width or ref_height is above 256, or a reference list is shorter than its rows */
-    LATCH_BAD_LINES = 12,            /* above_lines or left_lines is above 256, or a block does not stand in its window */
+    LATCH_DONE = 0,                  /* the work is done */
+    LATCH_BAD_SIZE = 1,              /* B is none of 4, 8, 16, 32, 64 */
+    LATCH_BAD_DEPTH = 2,             /* D is none of 8, 10, 12 */
+    LATCH_BAD_MODE = 3,              /* a direction above 7, a delta word above 6, or a stray flag bit */
+    LATCH_OUTSIDE_PLANE = 4,         /* x + B > width or y + B > height */
+    LATCH_NO_NEIGHBOUR = 5,          /* a neighbour that is said to be there is not in the plane */
+    LATCH_BAD_BASE = 6,              /* neither neighbour is there, and base is not in 1..M-1 */
+    LATCH_BAD_SAMPLE = 8,            /* a sample or edge entry that is read is not a number in 0..M */
+    LATCH_SHORT_LIST = 9,            /* a list is shorter than the call needs */
+    LATCH_BAD_COLOUR_DIRECTION = 10, /* a colour direction above 2 */
+    LATCH_BAD_REFERENCE = 11,        /* ref_width or ref_height is above 256, or luma or chroma is under ref_height x 256 */
+    LATCH_BAD_LINES = 12,            /* a count of lines is above 256, or a block or its neighbour is not in the window */
     LATCH_BAD_COLOUR_SAMPLE = 13,    /* a luma value that is needed is not in 0..8M+7, or a chroma value not in 0..M */
     LATCH_SUM_TOO_LARGE = 14,        /* one of the nine colour sums exceeds 2147483647 */
-    LATCH_BAD_PLANE = 20     /* width or height is not in 4..4096, or the plane's length is not width x height */
+    LATCH_BAD_PLANE = 20             /* width or height is not in 4..4096, or the plane's length is not width x height */
 };
 
 /* How many entries latch_build_refs writes to each edge: 2B at the largest B. */
 #define LATCH_EDGE_ENTRIES 128
+
+/* How far apart the rows of a colour window lie, and how many parameters latch_derive_params writes. */
+#define LATCH_WINDOW_STRIDE 256
+#define LATCH_COLOUR_PARAMS 3
 
 /* Builds the edges of the B x B block whose first sample is at column x, row y of a plane of f32 samples, row by row.
  * A sample v is read as v + 0.5, rounded once to f32, without its fraction; -0.0 is in range.
@@ -147,12 +151,16 @@ uint32_t latch_directional(uint16_t b, uint16_t d, uint16_t direction, uint16_t 
                            uint16_t max_width, uint16_t max_height, const int32_t *above, size_t above_len,
                            const int32_t *left, size_t left_len, int32_t corner, float *out, size_t out_len);
 
-/* Colour parameters from a reference window: three parameters that predict chroma from luma, in 16 binary digits after the point.
- * A reference list has rows of 256 entries, whatever ref_width. A sample counts at columns 1 to ref_width - 2 and rows 1 to
- * ref_height - 2, in the first above_lines rows or the first left_lines columns. No sample that counts gives 0, 0, 65536.
- * Direction 0 takes the luma at the place itself, 1 the one above it, 2 the one before it.
+/* derive_params: the three parameters by which chroma is best told from luma in a reference window.
  *
- * Writes params[0..2]. Lent: luma and chroma, at least ref_height x 256 entries each; params, at least 3 entries.
+ * The sample at row j, column i of the window stands at 256 j + i of luma and of chroma; luma has three bits more than D,
+ * chroma has D. A sample counts if j is in 1..ref_height-2 and i in 1..ref_width-2, and j < above_lines or i < left_lines.
+ * Its terms are the direction's luma >> 3, (c x c + 2^(D-1)) >> D for its own luma >> 3, c, and 2^(D-1). The direction's luma
+ * is its own for direction 0, the one above it for 1 and the one left of it for 2. The six sums of the terms' products and
+ * the three of their products with chroma make the equations that the parameters solve, in fixed point with 16 bits after the
+ * point. With no sample counted they are 0, 0, 65536. Any counts of lines up to 256 are taken, above the window's sizes too.
+ *
+ * Writes params[0..2]. Lent: luma and chroma, at least ref_height x 256 entries each; params, at least three entries.
  *
  * Refusals, in the order of checking:
  *    2  d is none of 8, 10, 12
@@ -160,18 +168,20 @@ uint32_t latch_directional(uint16_t b, uint16_t d, uint16_t direction, uint16_t 
  *   11  ref_width or ref_height is above 256, or luma_len or chroma_len is under ref_height x 256
  *   12  above_lines or left_lines is above 256
  *    9  params_len is under 3
- *   13  at a sample that counts, the direction's luma or the luma at the place is not in 0..8M+7, or the chroma is not in 0..M
+ *   13  for a sample that counts its own luma or the direction's luma is not in 0..8M+7, or its chroma is not in 0..M
  *   14  one of the nine sums exceeds 2147483647
  * A refused call changes nothing; a longer params keeps its tail; the slices must not overlap. */
 uint32_t latch_derive_params(const int32_t *luma, size_t luma_len, const int32_t *chroma, size_t chroma_len,
                              size_t ref_width, size_t ref_height, size_t above_lines, size_t left_lines,
                              uint32_t direction, uint32_t d, int32_t *params, size_t params_len);
 
-/* Colour prediction of a block of width x height samples from luma and three parameters with 16 binary digits after the point.
- * luma has rows of 256 entries; the block's first sample stands there at column left_lines and row above_lines. Each sample is
- * p0 times the direction's luma >> 3, plus p1 times (c x c + 2^(D-1)) >> D with c the sample's own luma >> 3, plus p2 times
- * 2^(D-1), clipped to 0..M. Direction 0 takes the sample's own luma, 1 the one above and 2 the one before; where have_top is
- * false, the first row takes its own in direction 1, and where have_left is false, the first column in direction 2.
+/* predict_block: a block of chroma samples, told from luma by three parameters.
+ *
+ * The block's sample at row j, column i has its own luma at row above_lines + j, column left_lines + i of the window, and the
+ * direction's luma there, above it or left of it, as in latch_derive_params. In the first row without have_top, and in the
+ * first column without have_left, a neighbour is missing, and the sample's own luma stands for it. The sample is the sum of
+ * each term times its parameter, with 16 bits after the point, rounded product by product, and clipped to 0..M. Any 32-bit
+ * parameters are taken; of the window's width nothing is used.
  *
  * Writes out[0..width*height-1], row by row. Lent: luma, at least ref_height x 256 entries; out, at least width x height.
  *
@@ -182,7 +192,7 @@ uint32_t latch_derive_params(const int32_t *luma, size_t luma_len, const int32_t
  *   12  above_lines or left_lines is above 256; width or height is not in 1..128; left_lines + width > 256;
  *       above_lines + height > ref_height; have_top with above_lines 0; have_left with left_lines 0
  *    9  out_len is under width x height
- *   13  a luma value that the direction needs at one of the samples, or its own, is not in 0..8M+7
+ *   13  for a sample of the block its own luma or the direction's luma is not in 0..8M+7
  * A refused call changes nothing; a longer out keeps its tail; the slices must not overlap. */
 uint32_t latch_predict_block(const int32_t *luma, size_t luma_len, size_t ref_width, size_t ref_height,
                              size_t above_lines, size_t left_lines, size_t width, size_t height,

@@ -1,6 +1,9 @@
 // main.rs: times the proved library against the original Rust: the same inputs, one driver, ways interleaved, best of many rounds.
 #[path = "../../oracle/src/calls.rs"]
 mod calls;
+#[path = "../../oracle/src/colour/mod.rs"]
+#[allow(dead_code)]
+mod colour;
 #[path = "../../oracle/src/draw.rs"]
 #[allow(dead_code)]
 mod draw;
@@ -19,8 +22,10 @@ mod spec;
 mod util;
 
 mod blocks;
+mod derive_params;
 mod directional;
 mod edges;
+mod predict_block;
 mod predictors;
 mod rust;
 mod timing;
@@ -29,10 +34,11 @@ mod ways;
 const SEED: u64 = 0x4C61_7463_6862_6E63;
 
 fn main() {
-    let cells: String = spec::SIZES.iter().map(|b| format!("{b:>10}")).collect();
-    println!("seed {SEED}; ns for one block; the last column is the geometric mean of Rust / ours");
-    println!("{:<30}{cells}{:>10}", "B", "mean");
+    println!("seed {SEED}; ns for one block or window; the last column is the geometric mean of Rust / ours");
+    timing::print_sizes("B", &spec::SIZES.map(usize::from));
     predictors::run(SEED);
     directional::run(SEED);
     edges::run(SEED);
+    derive_params::run(SEED);
+    predict_block::run(SEED);
 }

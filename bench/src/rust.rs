@@ -1,4 +1,6 @@
 // rust.rs: the original functions, each behind one call that is not inlined, as the library's are.
+use crate::colour::block::Block;
+use crate::colour::original::{self as colour, MhccpRefBuf};
 use crate::original::{self, Dir, DirectionalSpec, IntraRefSpec};
 
 #[inline(never)]
@@ -29,4 +31,14 @@ pub fn directional_into(dir: Dir, above: &[i32], left: &[i32], corner: i32, spec
 #[inline(never)]
 pub fn build_refs(plane: &[f32], spec: &IntraRefSpec) -> ([i32; 128], [i32; 128], i32) {
     original::build_refs(plane, spec)
+}
+
+#[inline(never)]
+pub fn derive_params(luma: &MhccpRefBuf, chroma: &MhccpRefBuf, direction: u32, d: u32) -> [i32; 3] {
+    colour::derive_params(luma, chroma, direction as u8, d as i32)
+}
+
+#[inline(never)]
+pub fn predict_block(luma: &MhccpRefBuf, b: &Block, out: &mut [i32]) {
+    colour::predict_block(luma, &b.params, b.window.direction as u8, b.have_top, b.have_left, b.window.d as i32, out)
 }

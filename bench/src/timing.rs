@@ -36,6 +36,12 @@ pub fn over<T>(inputs: &[T], loops: usize, mut work: impl FnMut(&T)) {
     }
 }
 
+/// The head of a table: its sizes.
+pub fn print_sizes(name: &str, sizes: &[usize]) {
+    let cells: String = sizes.iter().map(|size| format!("{size:>10}")).collect();
+    println!("{name:<30}{cells}{:>10}", "mean");
+}
+
 /// A row of times, one for each size.
 pub fn print_times(name: &str, times: &[f64]) {
     let cells: String = times.iter().map(|t| format!("{t:>10.1}")).collect();

@@ -1,4 +1,6 @@
 // calls.rs: the library's C functions, declared, and safe ways to call them.
+use crate::colour::block::Block;
+use crate::colour::window::Window;
 use crate::spec::{Mode, Spec, Words};
 
 type Predictor =
@@ -27,6 +29,17 @@ extern "C" {
         have_above: bool, have_left: bool, top_right: u16, bottom_left: u16, available_above: u16, available_left: u16,
         base: u16, above: *mut i32, above_len: usize, left: *mut i32, left_len: usize,
         corner: *mut i32, corner_len: usize,
+    ) -> u32;
+
+    fn latch_derive_params(
+        luma: *const i32, luma_len: usize, chroma: *const i32, chroma_len: usize, ref_width: usize, ref_height: usize,
+        above_lines: usize, left_lines: usize, direction: u32, d: u32, params: *mut i32, params_len: usize,
+    ) -> u32;
+
+    fn latch_predict_block(
+        luma: *const i32, luma_len: usize, ref_width: usize, ref_height: usize, above_lines: usize, left_lines: usize,
+        width: usize, height: usize, have_top: bool, have_left: bool, direction: u32, d: u32,
+        p0: i32, p1: i32, p2: i32, out: *mut i32, out_len: usize,
     ) -> u32;
 }
 
@@ -80,6 +93,31 @@ pub fn build_refs(plane: &[f32], spec: &Spec, above: &mut [i32], left: &mut [i32
             spec.have_above, spec.have_left, spec.top_right, spec.bottom_left,
             spec.available_above, spec.available_left, spec.base,
             above.as_mut_ptr(), above.len(), left.as_mut_ptr(), left.len(), corner.as_mut_ptr(), corner.len(),
+        )
+    }
+}
+
+/// Calls `latch_derive_params`.
+#[inline]
+pub fn derive_params(w: &Window, luma: &[i32], chroma: &[i32], params: &mut [i32]) -> u32 {
+    // The slices are live and do not overlap: `params` is borrowed alone.
+    unsafe {
+        latch_derive_params(
+            luma.as_ptr(), luma.len(), chroma.as_ptr(), chroma.len(), w.ref_width, w.ref_height,
+            w.above_lines, w.left_lines, w.direction, w.d, params.as_mut_ptr(), params.len(),
+        )
+    }
+}
+
+/// Calls `latch_predict_block`.
+#[inline]
+pub fn predict_block(b: &Block, luma: &[i32], out: &mut [i32]) -> u32 {
+    let (w, [p0, p1, p2]) = (&b.window, b.params);
+    // The slices are live and do not overlap: `out` is borrowed alone.
+    unsafe {
+        latch_predict_block(
+            luma.as_ptr(), luma.len(), w.ref_width, w.ref_height, w.above_lines, w.left_lines,
+            b.width, b.height, b.have_top, b.have_left, w.direction, w.d, p0, p1, p2, out.as_mut_ptr(), out.len(),
         )
     }
 }

@@ -75,7 +75,7 @@ impl Zones {
 
     fn print(&self) {
         let part = |(name, (blocks, samples))| format!("{name}: {blocks} blocks, {samples} samples");
-        println!("{:<17} {}", "", ZONES.into_iter().zip(self.0).map(part).collect::<Vec<_>>().join("; "));
+        println!("{:<19} {}", "", ZONES.into_iter().zip(self.0).map(part).collect::<Vec<_>>().join("; "));
     }
 }
 

@@ -36,6 +36,29 @@ impl Lent {
         &mut self.words[GUARD..GUARD + len]
     }
 
+    /// The first place at which a list that was lent with these entries, or what is around it, is not as it was, and what is there.
+    pub fn changed(&self, entries: &[i32]) -> Option<(isize, i32)> {
+        let lent = &self.words[GUARD..GUARD + self.len];
+        let same = lent.iter().zip(entries).fold(true, |same, (&word, &entry)| same & (word == entry as u32));
+        let place = if same { None } else { (0..self.len).find(|&i| lent[i] != entries[i] as u32) };
+        match place {
+            Some(i) => Some((i as isize, lent[i] as i32)),
+            None => {
+                let around = self.kept(0..GUARD).or_else(|| self.kept(GUARD + self.len..self.len + 2 * GUARD));
+                around.map(|(i, is, _)| (i, is as i32))
+            }
+        }
+    }
+
+    /// The first place of a range that is not the pattern: the place, what is there and what is due.
+    fn kept(&self, range: std::ops::Range<usize>) -> Option<(isize, u32, u32)> {
+        if self.words[range.clone()] == self.pattern[range.clone()] {
+            return None;
+        }
+        let i = range.clone().find(|&i| self.words[i] != self.pattern[i])?;
+        Some((i as isize - GUARD as isize, self.words[i], self.pattern[i]))
+    }
+
     /// The first place, counted from the lent start, that is neither the due entry nor, past those, the pattern:
     /// the place, what is there and what is due.
     pub fn difference(&self, due: impl Iterator<Item = u32>) -> Option<(isize, u32, u32)> {
@@ -46,13 +69,6 @@ impl Lent {
             }
             place += 1;
         }
-        let kept = |range: std::ops::Range<usize>| {
-            if self.words[range.clone()] == self.pattern[range.clone()] {
-                return None;
-            }
-            let i = range.clone().find(|&i| self.words[i] != self.pattern[i])?;
-            Some((i as isize - GUARD as isize, self.words[i], self.pattern[i]))
-        };
-        kept(0..GUARD).or_else(|| kept(place..self.len + 2 * GUARD))
+        self.kept(0..GUARD).or_else(|| self.kept(place..self.len + 2 * GUARD))
     }
 }

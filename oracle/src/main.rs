@@ -1,5 +1,7 @@
 // main.rs: holds the proved library against the original Rust. Two arguments: the scale, of which 1 is the usual run, and the project's root.
 mod calls;
+mod colour;
+mod derive_params;
 mod direct;
 mod directional;
 mod draw;
@@ -8,6 +10,7 @@ mod guard;
 mod inputs;
 mod original;
 mod plane;
+mod predict_block;
 mod predictors;
 mod random;
 mod refusals;
@@ -28,5 +31,8 @@ fn main() {
     let samples = predictors::compare(SEED, scale) + directional::compare(SEED, scale);
     let sets = edges::compare(SEED, scale);
     still::compare(&std::env::args().nth(2).unwrap_or_default());
-    println!("oracle: {samples} predicted samples, {sets} edge sets, 0 differences");
+    let windows = derive_params::compare(SEED, scale);
+    let colour = predict_block::compare(SEED, scale);
+    print!("oracle: {samples} predicted samples, {sets} edge sets, ");
+    println!("{windows} colour windows, {colour} colour samples, 0 differences");
 }

@@ -24,7 +24,7 @@ impl Tally {
         let refused: Vec<String> =
             due.iter().filter(|&&n| n != 0).map(|&n| format!("{n}: {}", self.answers[n])).collect();
         let samples = if self.samples > 0 { format!(", {} samples", self.samples) } else { String::new() };
-        println!("{:<17} {} {unit}{samples}; refused {}", self.name, self.accepted(), refused.join(", "));
+        println!("{:<19} {} {unit}{samples}; refused {}", self.name, self.accepted(), refused.join(", "));
         if let Some(n) = due.iter().find(|&&n| self.answers[n] == 0) {
             println!("oracle: {} never answered {n}: the cases are too few", self.name);
             std::process::exit(1);

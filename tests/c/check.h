@@ -70,5 +70,8 @@ void test_paper(void);
 void test_direct(void);
 void test_directions(void);
 void test_build_refs(void);
+void test_colour_numbers(void);
+void test_derive_params(void);
+void test_predict_block(void);
 
 #endif

@@ -6,5 +6,8 @@ int main(void) {
     test_directions();
     test_direct();
     test_build_refs();
+    test_colour_numbers();
+    test_derive_params();
+    test_predict_block();
     return checks_done();
 }

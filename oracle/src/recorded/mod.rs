@@ -1,6 +1,9 @@
 // mod.rs: the cases of the recorded list, each printed as one line of text.
+mod corner;
+pub mod derive_params;
 pub mod directional;
 pub mod edges;
+pub mod predict_block;
 pub mod predictors;
 
 use std::fmt::Write;
