@@ -8,8 +8,8 @@ ghost use lib.IntN.{pos};
 ghost use Rattle.numbers.specs.Depth.{isDepth, most};
 ghost use Rattle.predict.specs.Mixed.{halfOf, Ready, MixOf};
 
-// bits is D, mid 2^(D-1) and max M. third is what the third term gives, and half0 and half1 round the products by p0 and p1, which have digits0 and digits1 binary digits. short says that every
-// second factor of the block is below both limits, so that the short product serves.
+// bits is D, mid 2^(D-1) and max M. third is what the third term gives. half0 and half1 round the products by p0 and p1, which have digits0 and digits1
+// binary digits. short says that every second factor of the block is below both limits, so that the short product serves.
 pub struct Mix {
     pub bits: u32,
     pub mid: i32,
