@@ -1,13 +1,13 @@
--- The places that count in a row are a run of columns from 1 on, and rows past the last one have none. Assumes nothing.
+-- Which places count: in rows inside the above lines all columns from 1 on, in the rows below them the first few. Assumes nothing.
 use mathlib.Core.Path.{_≡_, refl}
-use mathlib.Core.Bool.{Bool, true, false, cond, _&&_, _||_}
+use mathlib.Core.Bool.{Bool, true, false, _&&_, _||_}
 use mathlib.Core.Logic.{_⊎_, inl, inr, ⊎-elim}
-use Prim.Native.Nat.{ℕ, suc, _+_, _-_, _≤_, _<_, min}
+use Prim.Native.Nat.{ℕ, suc, _+_, _-_, _≤_, _<_}
 use native.Mathlib.Omega.{arith}
 use lib.Dec.{ltb, leb}
 use borrow.Author.Tests.{lt-ltb, le-ltb, le-leb, lt-leb, ltb-true, ltb-false, leb-true, leb-false}
 use Rattle.zint.proofs.Range.{and-both}
-use Rattle.sums.specs.Places.{within, counts, across, pastRows}
+use Rattle.sums.specs.Places.{within, counts, wide, high, rowsAbove, few}
 use Rattle.sums.specs.declared.window.Window.{Window}
 
 pub either : (m n : ℕ) → (m ≤ n) ⊎ (n < m)
@@ -71,52 +71,20 @@ module _ (w : Window) where
       let b = and-both (leb 1 y) (ltb (y + 1) H) (q .1) in
       (leb-true 1 x (a .0), ltb-true (x + 1) W (a .1), leb-true 1 y (b .0), ltb-true (y + 1) H (b .1))
 
-  -- ---- the run of a row
-  across-is : (y : ℕ) → ((y < w .«above_lines») × (across w y ≡ W - 2)) ⊎ ((w .«above_lines» ≤ y) × (across w y ≡ min (w .«left_lines») (W - 1) - 1))
-  unfolding across
-  across-is y = go (ltb y (w .«above_lines»)) refl
-    where
-      go : (t : Bool) → ltb y (w .«above_lines») ≡ t
-          → ((y < w .«above_lines») × (cond t (W - 2) (min (w .«left_lines») (W - 1) - 1) ≡ W - 2))
-          ⊎ ((w .«above_lines» ≤ y) × (cond t (W - 2) (min (w .«left_lines») (W - 1) - 1) ≡ min (w .«left_lines») (W - 1) - 1))
-      go true e = inl (ltb-true _ _ e, refl)
-      go false e = inr (ltb-false _ _ e, refl)
+  -- ---- rows inside the above lines
+  pub in-above : (j k : ℕ) → j < rowsAbove w → k < wide w → counts w (suc k) (suc j) ≡ true
+  in-above j k h l = counts-yes (suc k) (suc j) (omega arith) (omega arith) (omega arith) (omega arith) (inr (omega arith))
 
-  pub across-most : (y : ℕ) → across w y ≤ W - 2
-  across-most y = ⊎-elim (λ p. omega arith) (λ p. omega arith) (across-is y)
+  pub past-above : (y x : ℕ) → wide w < x → counts w x y ≡ false
+  past-above y x l = no-column x y (inr (omega arith))
 
-  pub in-run : (y k : ℕ) → 1 ≤ y → y + 1 < H → k < across w y → counts w (suc k) y ≡ true
-  in-run y k hy ly h =
+  -- ---- rows below them
+  pub in-below : (j k : ℕ) → j < high w → k < few w → counts w (suc k) (suc j) ≡ true
+  in-below j k h l = counts-yes (suc k) (suc j) (omega arith) (omega arith) (omega arith) (omega arith) (inl (omega arith))
+
+  pub past-below : (j x : ℕ) → rowsAbove w ≤ j → j < high w → few w < x → counts w x (suc j) ≡ false
+  past-below j x h k l =
       ⊎-elim
-      (λ p. counts-yes (suc k) y (omega arith) (omega arith) hy ly (inr (p .0)))
-      (λ p. counts-yes (suc k) y (omega arith) (omega arith) hy ly (inl (omega arith)))
-      (across-is y)
-
-  pub past-run : (y x : ℕ) → across w y < x → counts w x y ≡ false
-  past-run y x h =
-      ⊎-elim
-      (λ p. no-column x y (inr (omega arith)))
-      (λ p. ⊎-elim (λ l. no-line x y l (p .0)) (λ l. no-column x y (inr (omega arith))) (either (w .«left_lines») x))
-      (across-is y)
-
-  -- ---- the rows
-  past-is : ((1 < w .«left_lines») × (pastRows w ≡ H - 1)) ⊎ ((w .«left_lines» ≤ 1) × (pastRows w ≡ min (w .«above_lines») (H - 1)))
-  unfolding pastRows
-  past-is = go (ltb 1 (w .«left_lines»)) refl
-    where
-      go : (t : Bool) → ltb 1 (w .«left_lines») ≡ t
-          → ((1 < w .«left_lines») × (cond t (H - 1) (min (w .«above_lines») (H - 1)) ≡ H - 1))
-          ⊎ ((w .«left_lines» ≤ 1) × (cond t (H - 1) (min (w .«above_lines») (H - 1)) ≡ min (w .«above_lines») (H - 1)))
-      go true e = inl (ltb-true _ _ e, refl)
-      go false e = inr (ltb-false _ _ e, refl)
-
-  pub past-most : pastRows w ≤ H - 1
-  past-most = ⊎-elim (λ p. omega arith) (λ p. omega arith) past-is
-
-  pub past-rows : (x y : ℕ) → pastRows w ≤ y → counts w x y ≡ false
-  past-rows x y h = ⊎-elim (λ p. no-row x y (inr (omega arith))) (λ p. few p (either (w .«above_lines») y)) past-is
-    where
-      few : (w .«left_lines» ≤ 1) × (pastRows w ≡ min (w .«above_lines») (H - 1)) → (w .«above_lines» ≤ y) ⊎ (y < w .«above_lines»)
-          → counts w x y ≡ false
-      few p (inr l) = no-row x y (inr (omega arith))
-      few p (inl l) = ⊎-elim (λ (z : x ≤ 0). no-column x y (inl (omega arith))) (λ (z : 0 < x). no-line x y (omega arith) l) (either x 0)
+      (λ (s : w .«left_lines» ≤ x). no-line x (suc j) s (omega arith))
+      (λ (s : x < w .«left_lines»). no-column x (suc j) (inr (omega arith)))
+      (either (w .«left_lines») x)

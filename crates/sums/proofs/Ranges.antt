@@ -2,7 +2,7 @@
 use mathlib.Core.Path.{_≡_, sym, _∙_, ap, subst}
 use mathlib.Core.Bool.{Bool, true, false, _&&_}
 use mathlib.Core.List.{List}
-use Prim.Native.Nat.{ℕ, zero, suc, _+_, _-_, _*_, _^_, _≤_, _<_}
+use Prim.Native.Nat.{ℕ, zero, suc, _+_, _-_, _*_, _/_, _^_, _≤_, _<_}
 use native.Mathlib.Omega.{arith}
 use lib.IntN.{ℤ, pos, natAbs}
 use lib.Dec.{T}
@@ -15,11 +15,9 @@ use mir.Syntax.{w32}
 use mir.Val.{Fits}
 use Rattle.zint.specs.Range.{inside}
 use Rattle.zint.proofs.Range.{and-both, inside-abs, inside-pos, pos-inside}
-use Rattle.terms.specs.Terms.{entry, eighth, squared}
+use Rattle.terms.specs.Terms.{entry, eighth, middle, squared}
 use Rattle.terms.proofs.Most.{pow-le, eighth-in, squared-in, middle-most}
-use Rattle.sums.specs.declared.nine.Terms.{Terms}
-use Rattle.sums.specs.Sample.{own, behind, inRange, terms, TermsMost}
-use Rattle.sums.specs.Sum.{keep}
+use Rattle.sums.specs.Sample.{own, behind, inRange, Terms, terms}
 
 -- the direction's luma, by its distance from the centre
 pub own-at : (direction : ℕ) (luma : List ℤ) (x y : ℕ) → 1 ≤ x → 1 ≤ y → own direction luma x y ≡ getD luma (y * 256 + x - behind direction) (pos 0)
@@ -41,6 +39,11 @@ own-here direction luma i y b hy e =
 pub centre-here : (xs : List ℤ) (i y : ℕ) → getD xs (y * 256 + 1 + i) (pos 0) ≡ entry xs (suc i) y
 centre-here xs i y = ap (λ k. getD xs k (pos 0)) (omega arith)
 
+pub record TermsMost (m : ℕ) (t : Terms) : Type 0 where
+  pub own : t .own ≤ m
+  pub square : t .square ≤ m
+  pub middle : t .middle ≤ m
+
 -- what refusal 13 leaves
 pub range-parts : (M : ℕ) (v c k : ℤ) → inRange M v c k ≡ true
     → (inside (pos (8 * M + 7)) v ≡ true) × (inside (pos (8 * M + 7)) c ≡ true) × (inside (pos M) k ≡ true)
@@ -49,12 +52,6 @@ range-parts M v c k e =
     let p = and-both (inside (pos (8 * M + 7)) v && inside (pos (8 * M + 7)) c) (inside (pos M) k) e in
     let q = and-both (inside (pos (8 * M + 7)) v) (inside (pos (8 * M + 7)) c) (p .0) in
     (q .0, q .1, p .1)
-
--- and what is kept is in range, whether or not the sample is
-pub kept-parts : (M : ℕ) (v c k : ℤ) (t : Bool) → inRange M v c k ≡ t
-    → (inside (pos (8 * M + 7)) (keep t v) ≡ true) × (inside (pos (8 * M + 7)) (keep t c) ≡ true) × (inside (pos M) (keep t k) ≡ true)
-kept-parts M v c k true e = range-parts M v c k e
-kept-parts M v c k false e = (pos-inside _ 0 (omega arith), pos-inside _ 0 (omega arith), pos-inside _ 0 (omega arith))
 
 -- the terms of a sample in range
 module _ (D : ℕ) (v c : ℤ) (one : 1 ≤ D) (hv : inside (pos (8 * most D + 7)) v ≡ true) (hc : inside (pos (8 * most D + 7)) c ≡ true) where
@@ -82,6 +79,11 @@ module _ (D : ℕ) (v c : ℤ) (one : 1 ≤ D) (hv : inside (pos (8 * most D + 7
     middle = middle-most D one;
   }
 
+-- the square of a number that is not below 0
+pub squared-nat : (D m : ℕ) (c : ℤ) → inside (pos m) c ≡ true → natAbs (squared D c) ≡ (natAbs c * natAbs c + middle D) / 2 ^ D
+unfolding squared
+squared-nat D m c e = ap (λ (z : ℤ). natAbs (squared D z)) (inside-pos m c e)
+
 pub bits-least : (depth : Depth) → 1 ≤ bitsOf depth
 bits-least Eight = omega arith
 bits-least Ten = omega arith
@@ -95,13 +97,6 @@ bits-most Twelve = omega arith
 -- every depth that there is has terms of twelve digits
 pub most-small : (D : ℕ) → D ≤ 12 → most D ≤ 4095
 most-small D h = omega (arith, pow-le {i = D} {j = 12} h)
-
-pub terms-small : (D : ℕ) (t : Terms) → D ≤ 12 → TermsMost (most D) t → TermsMost 4095 t
-terms-small D t h n = record {
-  own = omega (arith, most-small D h, n .own);
-  square = omega (arith, most-small D h, n .square);
-  middle = omega (arith, most-small D h, n .middle);
-}
 
 -- a number in 0..m, cast to an unsigned type
 pub cast-in : (m : ℕ) (z : ℤ) → m < 2 ^ 32 → inside (pos m) z ≡ true → T (nonNeg z) × Fits w32 (natAbs z)

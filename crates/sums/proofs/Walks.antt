@@ -4,6 +4,7 @@ use mathlib.Core.Bool.{Bool, true, false, cond, _&&_}
 use mathlib.Core.Logic.{⊎-elim}
 use Prim.Native.Nat.{ℕ, zero, suc, _+_, _*_, _≤_, _<_}
 use native.Mathlib.Nat.{eq-or-lt-of-le, le-of-suc-le-suc}
+use native.Mathlib.Numerals.{add-one}
 use native.Mathlib.Omega.{arith}
 use lib.Dec.{T}
 use Rattle.zint.proofs.Range.{and-both}
@@ -18,6 +19,9 @@ module _ {A : Type 0} where
   pub fold-suc : (n : ℕ) (f : ℕ → A → A) (a : A) → fold (suc n) f a ≡ f n (fold n f a)
   unfolding fold
   fold-suc n f a = refl
+
+  pub fold-next : (n : ℕ) (f : ℕ → A → A) (a : A) → fold (n + 1) f a ≡ f n (fold n f a)
+  fold-next n f a = ap (λ k. fold k f a) (add-one n) ∙ fold-suc n f a
 
   -- steps from n on that do nothing
   pub fold-past : (f : ℕ → A → A) (a : A) (n m : ℕ) → n ≤ m → ((k : ℕ) → n ≤ k → (b : A) → f k b ≡ b) → fold m f a ≡ fold n f a
@@ -35,6 +39,12 @@ module _ {A : Type 0} where
   fold-shift g f a zero none same = none a
   fold-shift g f a (suc n) none same =
       same n (omega arith) (fold (suc n) g a) ∙ ap (f n) (fold-shift g f a n none (λ k l. same k (omega arith)))
+
+  -- steps that do the same
+  pub fold-same : (n : ℕ) (f g : ℕ → A → A) → ((k : ℕ) → k < n → (a : A) → f k a ≡ g k a) → (a : A) → fold n f a ≡ fold n g a
+  unfolding fold
+  fold-same zero f g same a = refl
+  fold-same (suc n) f g same a = same n (omega arith) (fold n f a) ∙ ap (g n) (fold-same n f g (λ k l. same k (omega arith)) a)
 
 -- a relation that every step keeps
 module _ {A B : Type 0} (R : A → B → Type 0) where
@@ -83,27 +93,3 @@ rows-true w q (suc j) e x y hx hy c =
     (λ (s : y ≡ j). rw s (p .1 x hx (rw s at c)))
     (λ (l : y < j). rows-true w q j (p .0) x y hx l c)
     (eq-or-lt-of-le (le-of-suc-le-suc hy))
-
--- ---- how many
-pub fold-count : (n c : ℕ) → fold n (λ k m. m + 1) c ≡ c + n
-unfolding fold
-fold-count zero c = omega arith
-fold-count (suc n) c = omega (arith, fold-count n c)
-
-pub rows-count-most : (w : Window) (j : ℕ) → fold j (row w (λ x y m. m + 1)) 0 ≤ j * w .«ref_width»
-unfolding fold row
-rows-count-most w zero = omega arith
-rows-count-most w (suc j) =
-    omega (arith, rows-count-most w j, one-row (w .«ref_width») j (fold j (row w (λ x y m. m + 1)) 0), row-is)
-  where
-    one-row : (n y c : ℕ) → fold n (λ x m. cond (counts w x y) (m + 1) m) c ≤ c + n
-    one-row zero y c = omega arith
-    one-row (suc n) y c = go (counts w n y) (fold n (λ x m. cond (counts w x y) (m + 1) m) c) (one-row n y c)
-      where
-        go : (t : Bool) (m : ℕ) → m ≤ c + n → cond t (m + 1) m ≤ c + suc n
-        go true m h = omega arith
-        go false m h = omega arith
-
-    row-is : row w (λ x y m. m + 1) j (fold j (row w (λ x y m. m + 1)) 0)
-        ≡ fold (w .«ref_width») (λ x m. cond (counts w x j) (m + 1) m) (fold j (row w (λ x y m. m + 1)) 0)
-    row-is = refl

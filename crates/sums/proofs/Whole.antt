@@ -1,43 +1,59 @@
--- What one walk over a window gathers: the test of refusal 13, the sums where it holds, and how large they are. Assumes nothing.
-use mathlib.Core.Path.{_≡_, refl, ap}
-use mathlib.Core.Bool.{true, _&&_}
+-- What is taken from a whole window: the test of refusal 13, and the sums where it holds. Assumes nothing.
+use mathlib.Core.Path.{_≡_, refl, sym, _∙_, ap}
+use mathlib.Core.Bool.{true, false, cond}
 use mathlib.Core.List.{List}
-use Prim.Native.Nat.{ℕ, _*_, _≤_}
-use native.Mathlib.Nat as N
-use lib.IntN.{ℤ}
+use Prim.Native.Nat.{ℕ, _+_, _-_, _*_, _^_, _≤_, _<_}
+use native.Mathlib.Omega.{arith}
+use lib.IntN.{ℤ, pos}
 use Rattle.numbers.specs.Depth.{most}
-use Rattle.terms.specs.Terms.{entry}
-use Rattle.sums.specs.Sample.{own, isRead}
-use Rattle.sums.specs.Places.{walk}
-use Rattle.sums.specs.Sum.{none, oneMore, keepAdded, taken, takenAt, gathered, sumsOf, countOf, isReadable, NineMost}
+use Rattle.zint.proofs.Range.{pos-inside}
+use Rattle.terms.specs.Terms.{middle}
+use Rattle.sums.specs.declared.lines.Totals.{Totals}
 use Rattle.sums.specs.declared.window.Window.{Window}
-use Rattle.sums.specs.declared.gather.Gathered.{Gathered}
-use Rattle.sums.proofs.Walks.{rows-both, rows-count-most}
-use Rattle.sums.proofs.Sizes.{readable-at, rows-most}
+use Rattle.sums.specs.declared.window.Gathered.the-variants.{Sums, OutOfRange}
+use Rattle.sums.specs.Places.{walk, wide, high}
+use Rattle.sums.specs.Sum.{none, oneMore, sumsOf, isReadable, gathered, NineMost, Laid}
+use Rattle.sums.specs.Way.{unseen, allIn, scaled}
+use Rattle.sums.specs.Took.{Took, TookAbove, TookBelow, empty, readable}
+use Rattle.sums.proofs.Runs.{walk-is}
+use Rattle.sums.proofs.Steps.{took-then, took-as, nine-start}
+use Rattle.sums.proofs.Blocks.{Block}
 
-module _ (D direction : ℕ) (luma chroma : List ℤ) (one : 1 ≤ D) where
-  abbrev step : ℕ → ℕ → Gathered → Gathered
-  step = takenAt D direction luma chroma
+-- rows of a window that refusal 11 leaves
+pub laid-block : {w : Window} {luma chroma : List ℤ} (m r n : ℕ) → Laid w luma chroma → m + r ≤ high w → n ≤ wide w → Block m r n luma chroma
+laid-block m r n h rows columns = record {
+  rows = omega (arith, h .high);
+  columns = omega (arith, h .wide);
+  luma-long = λ j l. omega (arith, h .luma-long);
+  chroma-long = λ j l. omega (arith, h .chroma-long);
+}
 
-  pub gathered-ok : (w : Window) → gathered D direction luma chroma w .ok ≡ isReadable (most D) direction luma chroma w
-  unfolding walk takenAt taken isRead
-  gathered-ok w =
-      rows-both (λ g b. g .ok ≡ b) w step (λ x y ok. ok && isRead (most D) direction luma chroma x y)
-      (λ x y c g b e. ap (λ t. t && isRead (most D) direction luma chroma x y) e) (w .«ref_height») _ true refl
+nothing-scaled : (m : ℕ) → scaled m none ≡ none
+nothing-scaled m =
+    let z : 0 * m ≡ 0 = omega arith in
+    let y : 0 * (m * m) ≡ 0 = omega arith in
+    λ j. record { a00 = 0; a01 = 0; a02 = z j; a11 = 0; a12 = z j; a22 = y j; y0 = 0; y1 = 0; y2 = z j }
 
-  pub gathered-sums : (w : Window) → isReadable (most D) direction luma chroma w ≡ true
-      → gathered D direction luma chroma w .sums ≡ sumsOf D direction luma chroma w
-  unfolding walk takenAt taken isRead oneMore
-  gathered-sums w r =
-      rows-both (λ g s. g .sums ≡ s) w step (oneMore D direction luma chroma)
-      (λ x y c g s e.
-      (λ j. keepAdded D (readable-at (most D) direction luma chroma w r x y c j) (own direction luma x y) (entry luma x y) (entry chroma x y) (e j)))
-      (w .«ref_height») _ none refl
+nothing-in : (M : ℕ) → allIn M unseen ≡ true
+nothing-in M = simp (pos-inside (8 * M + 7) 0 (omega arith), pos-inside M 0 (omega arith))
 
-  pub gathered-most : (w : Window) → NineMost (countOf w * (most D * most D)) (gathered D direction luma chroma w .sums)
-  unfolding walk
-  gathered-most w = rows-most D direction luma chroma one w (w .«ref_height»)
+module _ (D direction : ℕ) (luma chroma : List ℤ) (w : Window) (g r : Totals) (a : TookAbove D direction luma chroma w g) (b : TookBelow D direction luma chroma w g r) where
+  whole : Took D (walk w (readable (most D) direction luma chroma)) (walk w (oneMore D direction luma chroma)) (2 ^ 41) empty r
+  whole = took-as (λ ok. sym (walk-is w _ ok)) (λ s. sym (walk-is w _ s)) (omega arith) (took-then a b)
 
-pub count-most : (w : Window) → w .«ref_width» ≤ 256 → w .«ref_height» ≤ 256 → countOf w ≤ 65536
-unfolding walk
-count-most w h l = N.le-trans (rows-count-most w (w .«ref_height»)) (N.mul-le-mul l h)
+  pub readable-is : allIn (most D) (r .seen) ≡ isReadable (most D) direction luma chroma w
+  readable-is = whole .tested ∙ ap (walk w (readable (most D) direction luma chroma)) (nothing-in (most D))
+
+  pub sums-are : allIn (most D) (r .seen) ≡ true → scaled (middle D) (r .sums) ≡ sumsOf D direction luma chroma w
+  sums-are h = whole .summed h ∙ ap (walk w (oneMore D direction luma chroma)) (nothing-scaled (middle D))
+
+  pub sums-small : NineMost (2 ^ 41) (r .sums)
+  sums-small = whole .grown 0 (nine-start 0)
+
+  pub gathered-out : allIn (most D) (r .seen) ≡ false → gathered D direction luma chroma w ≡ OutOfRange
+  unfolding gathered
+  gathered-out h = ap (λ t. cond t (Sums (sumsOf D direction luma chroma w)) OutOfRange) (sym readable-is ∙ h)
+
+  pub gathered-in : allIn (most D) (r .seen) ≡ true → gathered D direction luma chroma w ≡ Sums (scaled (middle D) (r .sums))
+  unfolding gathered
+  gathered-in h = ap (λ t. cond t (Sums (sumsOf D direction luma chroma w)) OutOfRange) (sym readable-is ∙ h) ∙ ap Sums (sym (sums-are h))

@@ -1,4 +1,6 @@
--- What a direction needs at a place, a sample's terms, the places that count, and the nine sums over them.
+-- What a direction needs at a place, a sample's terms, the places that count, the nine sums over them, and the code's way to the sums.
 pub mod Sample
 pub mod Places
 pub mod Sum
+pub mod Way
+pub mod Took

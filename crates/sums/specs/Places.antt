@@ -26,9 +26,26 @@ row w f y a = fold (w .«ref_width») (λ x b. cond (counts w x y) (f x y b) b) 
 unfoldable pub walk : {A : Type 0} → Window → (ℕ → ℕ → A → A) → A → A
 walk w f a = fold (w .«ref_height») (row w f) a
 
--- how many columns count in row y, from column 1 on, and the row after the last one that has any
-unfoldable pub across : Window → ℕ → ℕ
-across w y = cond (ltb y (w .«above_lines»)) (w .«ref_width» - 2) (min (w .«left_lines») (w .«ref_width» - 1) - 1)
+-- ---- the same places, as the code meets them: rows inside the above lines from row 1 on, then the first columns of the rows below
+abbrev pub wide : Window → ℕ
+wide w = w .«ref_width» - 2
 
-unfoldable pub pastRows : Window → ℕ
-pastRows w = cond (ltb 1 (w .«left_lines»)) (w .«ref_height» - 1) (min (w .«above_lines») (w .«ref_height» - 1))
+abbrev pub high : Window → ℕ
+high w = w .«ref_height» - 2
+
+-- how many rows are inside the above lines, and how many columns inside the left lines
+abbrev pub rowsAbove : Window → ℕ
+rowsAbove w = min (w .«above_lines» - 1) (high w)
+
+abbrev pub few : Window → ℕ
+few w = min (w .«left_lines» - 1) (wide w)
+
+-- f at the first n columns from column 1 on of each of r rows from row m + 1 on
+abbrev pub block : {A : Type 0} → ℕ → ℕ → ℕ → (ℕ → ℕ → A → A) → A → A
+block m r n f a = fold r (λ j b. fold n (λ i c. f (suc i) (suc (m + j)) c) b) a
+
+unfoldable pub above : {A : Type 0} → Window → (ℕ → ℕ → A → A) → A → A
+above w f a = block 0 (rowsAbove w) (wide w) f a
+
+unfoldable pub below : {A : Type 0} → Window → (ℕ → ℕ → A → A) → A → A
+below w f a = block (rowsAbove w) (high w - rowsAbove w) (few w) f a

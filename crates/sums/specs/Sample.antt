@@ -1,11 +1,10 @@
 -- What a direction's rule needs at a place, and the terms of the sample there (document 01, Colour parameters and refusal 13).
 use mathlib.Core.Bool.{Bool, _&&_}
 use mathlib.Core.List.{List}
-use Prim.Native.Nat.{ℕ, zero, suc, _+_, _-_, _*_, _≤_}
+use Prim.Native.Nat.{ℕ, zero, suc, _+_, _-_, _*_}
 use lib.IntN.{ℤ, pos, natAbs}
 use Rattle.zint.specs.Range.{inside}
 use Rattle.terms.specs.Terms.{stride, entry, eighth, middle, squared}
-use Rattle.sums.specs.declared.nine.Terms.{Terms}
 
 -- "the direction's luma" at column x and row y: the centre, the one above it, the one before it
 abbrev pub own : ℕ → List ℤ → ℕ → ℕ → ℤ
@@ -28,11 +27,12 @@ inRange M v c k = (inside (pos (8 * M + 7)) v && inside (pos (8 * M + 7)) c) && 
 unfoldable pub isRead : ℕ → ℕ → List ℤ → List ℤ → ℕ → ℕ → Bool
 isRead M direction luma chroma x y = inRange M (own direction luma x y) (entry luma x y) (entry chroma x y)
 
+-- one sample's terms
+pub record Terms : Type 0 where
+  pub own : ℕ
+  pub square : ℕ
+  pub middle : ℕ
+
 -- the terms of a sample with the direction's luma v and the centre c. In range no term is below 0 (proofs/Ranges.antt), so each is a natural number
 unfoldable pub terms : ℕ → ℤ → ℤ → Terms
 terms D v c = record { own = natAbs (eighth v); square = natAbs (squared D (eighth c)); middle = middle D }
-
-pub record TermsMost (m : ℕ) (t : Terms) : Type 0 where
-  pub own : t .own ≤ m
-  pub square : t .square ≤ m
-  pub middle : t .middle ≤ m

@@ -1,19 +1,17 @@
 -- "adds to the nine sums, six of products and three with chroma; adding a sample hands the sums on" (document 01, Colour parameters): one sample
 -- more, and the sums, the count and the test of all places that count. Sums are whole numbers without a bound.
-use mathlib.Core.Path.{_≡_}
 use mathlib.Core.Bool.{Bool, true, cond, _&&_}
 use mathlib.Core.List.{List}
-use Prim.Native.Nat.{ℕ, suc, _+_, _*_, _≤_, _<_}
-use lib.IntN.{ℤ, pos, natAbs}
+use Prim.Native.Nat.{ℕ, _+_, _*_, _≤_}
+use lib.IntN.{ℤ, natAbs}
 use lib.ListN.{length}
 use Rattle.numbers.specs.Depth.{most}
-use Rattle.terms.specs.Terms.{stride, entry, middle}
-use Rattle.sums.specs.declared.nine.Terms.{Terms}
+use Rattle.terms.specs.Terms.{stride, entry}
 use Rattle.sums.specs.declared.nine.Nine.{Nine}
-use Rattle.sums.specs.declared.gather.Gathered.{Gathered}
-use Rattle.sums.specs.declared.gather.Scale.{Scale}
+use Rattle.sums.specs.declared.window.Gathered.{Gathered}
+use Rattle.sums.specs.declared.window.Gathered.the-variants.{Sums, OutOfRange}
 use Rattle.sums.specs.declared.window.Window.{Window}
-use Rattle.sums.specs.Sample.{own, inRange, isRead, terms}
+use Rattle.sums.specs.Sample.{own, isRead, Terms, terms}
 use Rattle.sums.specs.Places.{walk}
 
 abbrev pub none : Nine
@@ -47,21 +45,9 @@ countOf w = walk w (λ x y n. n + 1) 0
 abbrev pub isReadable : ℕ → ℕ → List ℤ → List ℤ → Window → Bool
 isReadable M direction luma chroma w = walk w (λ x y ok. ok && isRead M direction luma chroma x y) true
 
--- what one walk over the places gathers: whether all that was met is in range, and the sums of it; a sample that is not in range is added as zeros
-abbrev pub keep : Bool → ℤ → ℤ
-keep t z = cond t z (pos 0)
-
-abbrev pub keepAdded : ℕ → Bool → ℤ → ℤ → ℤ → Nine → Nine
-keepAdded D t v c k s = added s (terms D (keep t v) (keep t c)) (natAbs (keep t k))
-
-unfoldable pub taken : ℕ → ℤ → ℤ → ℤ → Gathered → Gathered
-taken D v c k g = record { ok = g .ok && inRange (most D) v c k; sums = keepAdded D (inRange (most D) v c k) v c k (g .sums) }
-
-unfoldable pub takenAt : ℕ → ℕ → List ℤ → List ℤ → ℕ → ℕ → Gathered → Gathered
-takenAt D direction luma chroma x y g = taken D (own direction luma x y) (entry luma x y) (entry chroma x y) g
-
-abbrev pub gathered : ℕ → ℕ → List ℤ → List ℤ → Window → Gathered
-gathered D direction luma chroma w = walk w (takenAt D direction luma chroma) (record { ok = true; sums = none })
+-- both of the two at once: the sums, or that something is not in range
+unfoldable pub gathered : ℕ → ℕ → List ℤ → List ℤ → Window → Gathered
+gathered D direction luma chroma w = cond (isReadable (most D) direction luma chroma w) (Sums (sumsOf D direction luma chroma w)) OutOfRange
 
 -- each of the nine is at most m
 pub record NineMost (m : ℕ) (s : Nine) : Type 0 where
@@ -75,25 +61,9 @@ pub record NineMost (m : ℕ) (s : Nine) : Type 0 where
   pub y1 : s .y1 ≤ m
   pub y2 : s .y2 ≤ m
 
--- n places of row y from column 1 on, and those above and before them, stand in the lists
-pub record Row (y n : ℕ) (luma chroma : List ℤ) : Type 0 where
-  pub below : 1 ≤ y
-  pub small : y < 256
-  pub narrow : n < 256
-  pub luma-long : suc y * stride ≤ length luma
-  pub chroma-long : suc y * stride ≤ length chroma
-
 -- refusal 11 is not given
 pub record Laid (w : Window) (luma chroma : List ℤ) : Type 0 where
   pub wide : w .«ref_width» ≤ 256
   pub high : w .«ref_height» ≤ 256
   pub luma-long : w .«ref_height» * stride ≤ length luma
   pub chroma-long : w .«ref_height» * stride ≤ length chroma
-
--- what a depth gives
-pub record Scaled (s : Scale) : Type 0 where
-  pub least : 1 ≤ s .d
-  pub largest : s .d ≤ 12
-  pub most-is : s .most ≡ pos (most (s .d))
-  pub top-is : s .top ≡ pos (8 * most (s .d) + 7)
-  pub middle-is : s .middle ≡ pos (middle (s .d))

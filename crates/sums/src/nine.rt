@@ -1,36 +1,9 @@
-// "adding a sample hands the sums on": the terms of one sample and the nine sums (document 01, Colour parameters).
+// The nine sums of a window (document 01, Colour parameters): sums of parts, with the middle of the range carried as 1 until all samples are in.
+use crate::part::Part;
 ghost use mathlib.Core.Path.{_≡_};
-ghost use mathlib.Core.Bool.{true};
 ghost use Prim.Native.Nat.{_+_, _*_, _≤_, _^_};
-ghost use lib.IntN.{pos};
-ghost use Rattle.numbers.specs.Depth.{most};
-ghost use Rattle.zint.specs.Range.{inside};
-ghost use Rattle.terms.specs.Terms.{middle};
-ghost use Rattle.sums.specs.Sample.{terms, TermsMost};
-ghost use Rattle.sums.specs.Sum.{added, none, NineMost};
-
-// One sample's terms: the direction's luma, the square of the centre, the middle of the range.
-pub struct Terms {
-    pub own: u32,
-    pub square: u32,
-    pub middle: u32,
-}
-
-impl Terms {
-    // The terms of a sample with the direction's luma v and the centre c.
-    pub fn of(v: i32, c: i32, mid: i32, d: u32) -> Terms
-        requires { ⌜ (inside (pos (8 * most d + 7)) v ≡ true) × (inside (pos (8 * most d + 7)) c ≡ true) ⌝ }
-        requires { ⌜ (mid ≡ pos (middle d)) × (1 ≤ d) × (d ≤ 12) ⌝ }
-        ensures { λ r. ⌜ r ≡ terms d v c ⌝ }
-    {
-        let half = mid;
-        Terms {
-            own: terms::eighth(v) as u32,
-            square: terms::squared(terms::eighth(c), half, d) as u32,
-            middle: half as u32,
-        }
-    }
-}
+ghost use Rattle.sums.specs.Sum.{none, NineMost};
+ghost use Rattle.sums.specs.Way.{plus, scaled};
 
 // The nine sums: six of products of two terms, three of a term and chroma.
 pub struct Nine {
@@ -45,11 +18,12 @@ pub struct Nine {
     pub y2: u64,
 }
 
-// The product of two terms.
-fn product(a: u32, b: u32) -> u64
-    ensures { λ r. ⌜ r ≡ a * b ⌝ }
+// A sum with the sum of a part added.
+fn sum(a: u64, b: u32) -> u64
+    requires { ⌜ a ≤ 2 ^ 41 ⌝ }
+    ensures { λ r. ⌜ r ≡ a + b ⌝ }
 {
-    a as u64 * b as u64
+    a + b as u64
 }
 
 impl Nine {
@@ -70,21 +44,40 @@ impl Nine {
         }
     }
 
-    // One sample more, with its terms t and its chroma y.
-    pub fn add(self, t: Terms, y: u32) -> Nine
-        requires { ⌜ NineMost (2 ^ 42) self × TermsMost 4095 t × (y ≤ 4095) ⌝ }
-        ensures { λ r. ⌜ r ≡ added self t y ⌝ }
+    // A part more.
+    pub fn plus(self, p: Part) -> Nine
+        requires { ⌜ NineMost (2 ^ 41) self ⌝ }
+        ensures { λ r. ⌜ r ≡ plus self p ⌝ }
     {
         Nine {
-            a00: self.a00 + product(t.own, t.own),
-            a01: self.a01 + product(t.own, t.square),
-            a02: self.a02 + product(t.own, t.middle),
-            a11: self.a11 + product(t.square, t.square),
-            a12: self.a12 + product(t.square, t.middle),
-            a22: self.a22 + product(t.middle, t.middle),
-            y0: self.y0 + product(t.own, y),
-            y1: self.y1 + product(t.square, y),
-            y2: self.y2 + product(t.middle, y),
+            a00: sum(self.a00, p.a00),
+            a01: sum(self.a01, p.a01),
+            a02: sum(self.a02, p.a02),
+            a11: sum(self.a11, p.a11),
+            a12: sum(self.a12, p.a12),
+            a22: sum(self.a22, p.a22),
+            y0: sum(self.y0, p.y0),
+            y1: sum(self.y1, p.y1),
+            y2: sum(self.y2, p.y2),
+        }
+    }
+
+    // The sums with the middle of the range for the 1 that stood for it.
+    pub fn scaled(self, middle: u32) -> Nine
+        requires { ⌜ NineMost (2 ^ 41) self × (middle ≤ 2048) ⌝ }
+        ensures { λ r. ⌜ r ≡ scaled middle self ⌝ }
+    {
+        let m = middle as u64;
+        Nine {
+            a00: self.a00,
+            a01: self.a01,
+            a02: self.a02 * m,
+            a11: self.a11,
+            a12: self.a12 * m,
+            a22: self.a22 * (m * m),
+            y0: self.y0,
+            y1: self.y1,
+            y2: self.y2 * m,
         }
     }
 }

@@ -1,83 +1,60 @@
--- `count_of` meets its contract. The invariant: the count of the rows passed. Assumes nothing.
-use Prim.Native.Nat.{ℕ, _+_, _*_, _-_, _≤_, _<_}
-use native.Mathlib.Omega.{arith}
-use native.Mathlib.Nat.{mul-le-mul}
+-- `count_of` meets its contract. Assumes nothing.
+use borrow.Author.Needs.{needs}
 use mathlib.Core.Path.{_≡_, sym, _∙_}
-use Rattle.sums.specs.Places.{fold, row, across, pastRows}
-use Rattle.sums.proofs.Walks.{fold-count, rows-count-most}
-use Rattle.sums.proofs.Counted.{across-most, past-most}
-use Rattle.sums.proofs.Runs.{walk-start, walk-step, walk-end}
+use Prim.Native.Nat.{ℕ, _+_, _*_, _-_, _≤_}
+use native.Mathlib.Omega.{arith}
+use Rattle.sums.specs.Places.{wide, high, rowsAbove, few}
+use Rattle.sums.proofs.Count.{count-is, few-rows}
 use Rattle.sums.proofs.window.count_of.Statement.{statement}
 use Rattle.sums.proofs.window.count_of.Tie as tie
 
--- one place more
-abbrev more : ℕ → ℕ → ℕ → ℕ
-more x y n = n + 1
+rows-above-requires : tie.Need-rows-above-requires
+rows-above-requires c κs = search needs
 
-abbrev Inv-loop : tie.InvT-loop
-Inv-loop w end count₀ y₀ count y = (1 ≤ y) × (y ≤ 257) × (count ≡ fold y (row w more) 0)
+less-requires : tie.Need-less-requires
+less-requires c κs = search needs
 
-abbrev μ-loop : tie.MeasureT-loop
-μ-loop w end count₀ y₀ count y = end - y
+-- the two products
+above-is : (c : tie.After-less) → c .before .rows-above .result * c .less .result ≡ rowsAbove (c .before .before .args .w) * wide (c .before .before .args .w)
+above-is c = λ j. c .before .rows-above .ensures j * c .less .ensures j
 
-rows-end-requires : tie.Need-rows-end-requires Inv-loop μ-loop
-rows-end-requires c κs = tt
+below-is : (c : tie.After-few) → let w = c .before .before .before .before .args .w in
+    (c .before .less2 .result - c .before .before .before .rows-above .result) * c .few .result ≡ (high w - rowsAbove w) * few w
+below-is c = λ j. (c .before .less2 .ensures j - c .before .before .before .rows-above .ensures j) * c .few .ensures j
 
-loop-holds : tie.Need-loop-holds Inv-loop μ-loop
-loop-holds c = (omega arith, omega arith, sym (walk-start (c .before .args .w) more 0))
+mul-result : tie.Need-mul-result
+mul-result c = let s = c .before .before in omega (arith, above-is c, few-rows (s .args .w) (s .pre .0) (s .pre .1) .0)
 
-columns-requires : tie.Need-columns-requires Inv-loop μ-loop
-columns-requires c κs = tt
+less-requires-2 : tie.Need-less-requires-2
+less-requires-2 c κs = search needs
 
-module _ (c : tie.After-columns Inv-loop μ-loop) where
-  abbrev l : tie.At-loop Inv-loop μ-loop
-  l = c .before .before
+sub-result : tie.Need-sub-result
+sub-result c = search needs
 
-  abbrev s : tie.Start Inv-loop μ-loop
-  s = l .before .before
+few-requires : tie.Need-few-requires
+few-requires c κs = search needs
 
-  row-below : l .loop .y < pastRows (s .args .w)
-  row-below = omega (arith, l .before .rows-end .ensures)
+mul-result-2 : tie.Need-mul-result-2
+mul-result-2 c = let s = c .before .before .before .before in omega (arith, below-is c, few-rows (s .args .w) (s .pre .0) (s .pre .1) .1)
 
-  few : l .loop .count ≤ 257 * 256
-  few = omega (arith, l .loop .inv .2, rows-count-most (s .args .w) (l .loop .y), mul-le-mul (l .loop .inv .1) (s .pre .0))
+add-result : tie.Need-add-result
+add-result c =
+    let s = c .before .before .before .before in
+    omega (arith, above-is (c .before .before), below-is c, few-rows (s .args .w) (s .pre .0) (s .pre .1) .2)
 
-add-count : tie.Need-add-count Inv-loop μ-loop
-add-count c = omega (arith, few c, c .columns .ensures, across-most (s c .args .w) (l c .loop .y), s c .pre .0)
-
-add-y : tie.Need-add-y Inv-loop μ-loop
-add-y c = omega arith
-
-loop-less : tie.Need-loop-less Inv-loop μ-loop
-loop-less c = omega arith
-
-loop-again : tie.Need-loop-again Inv-loop μ-loop
-loop-again c =
-    let w = s c .args .w in
-    let y = l c .loop .y in (
-      omega arith,
-      omega (arith, row-below c, past-most w, s c .pre .1),
-      (λ j. l c .loop .inv .2 j + c .columns .ensures j)
-          ∙ sym (fold-count (across w y) (fold y (row w more) 0))
-          ∙ sym (walk-step w more y (l c .loop .inv .0) (row-below c) 0),
-    )
-
-returns : tie.Need-returns Inv-loop μ-loop
-returns c =
-    let l = c .before in
-    l .loop .inv .2 ∙ walk-end _ more (l .loop .y) (omega (arith, l .before .rows-end .ensures)) 0
+returns : tie.Need-returns
+returns c = (λ j. above-is (c .before .before) j + below-is c j) ∙ sym (count-is (c .before .before .before .before .args .w))
 
 pub count-of-spec : {M : Type 1} → statement M
 count-of-spec =
     tie.close
     (tie.spec
-    Inv-loop
-    μ-loop
-    rows-end-requires
-    loop-holds
-    columns-requires
-    add-count
-    add-y
-    loop-less
-    loop-again
+    rows-above-requires
+    less-requires
+    mul-result
+    less-requires-2
+    sub-result
+    few-requires
+    mul-result-2
+    add-result
     returns)

@@ -1,0 +1,67 @@
+-- `Part::add` meets its contract: 256 products of two numbers of twelve digits fit 32. Assumes nothing.
+use borrow.Author.Needs.{needs}
+use Prim.Native.Nat.{ℕ, _+_, _*_, _^_, _≤_, _<_}
+use native.Mathlib.Omega.{arith}
+use native.Mathlib.Nat.{mul-le-mul}
+use Rattle.sums.proofs.part.Part.add.Statement.{statement}
+use Rattle.sums.proofs.part.Part.add.Tie as tie
+
+room : {s a b : ℕ} → s ≤ 255 * (4095 * 4095) → a ≤ 4095 → b ≤ 4095 → s + a * b < 2 ^ 32
+room h k l = omega (arith, mul-le-mul k l)
+
+more-requires : tie.Need-more-requires
+more-requires c κs = room (c .pre .0 .a00) (c .pre .1 .own) (c .pre .1 .own)
+
+more-requires-2 : tie.Need-more-requires-2
+more-requires-2 c κs = let s = c .before in room (s .pre .0 .a01) (s .pre .1 .own) (s .pre .1 .square)
+
+more-requires-3 : tie.Need-more-requires-3
+more-requires-3 c κs = search needs
+
+more-requires-4 : tie.Need-more-requires-4
+more-requires-4 c κs = let s = c .before .before .before in room (s .pre .0 .a11) (s .pre .1 .square) (s .pre .1 .square)
+
+more-requires-5 : tie.Need-more-requires-5
+more-requires-5 c κs = search needs
+
+more-requires-6 : tie.Need-more-requires-6
+more-requires-6 c κs = search needs
+
+more-requires-7 : tie.Need-more-requires-7
+more-requires-7 c κs = let s = c .before .before .before .before .before .before in room (s .pre .0 .y0) (s .pre .1 .own) (s .pre .1 .chroma)
+
+more-requires-8 : tie.Need-more-requires-8
+more-requires-8 c κs = let s = c .before .before .before .before .before .before .before in room (s .pre .0 .y1) (s .pre .1 .square) (s .pre .1 .chroma)
+
+more-requires-9 : tie.Need-more-requires-9
+more-requires-9 c κs = search needs
+
+returns : tie.Need-returns
+returns c =
+    let c5 = c .before .before .before .before in
+    λ j. record {
+      a00 = c5 .before .before .before .before .more .ensures j;
+      a01 = c5 .before .before .before .more2 .ensures j;
+      a02 = c5 .before .before .more3 .ensures j;
+      a11 = c5 .before .more4 .ensures j;
+      a12 = c5 .more5 .ensures j;
+      a22 = c .before .before .before .more6 .ensures j;
+      y0 = c .before .before .more7 .ensures j;
+      y1 = c .before .more8 .ensures j;
+      y2 = c .more9 .ensures j;
+    }
+
+pub add-spec : {M : Type 1} → statement M
+add-spec =
+    tie.close
+    (tie.spec
+    more-requires
+    more-requires-2
+    more-requires-3
+    more-requires-4
+    more-requires-5
+    more-requires-6
+    more-requires-7
+    more-requires-8
+    more-requires-9
+    returns)

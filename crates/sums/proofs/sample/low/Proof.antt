@@ -1,0 +1,18 @@
+-- `low` meets its contract. Assumes nothing.
+use mathlib.Core.Path.{_∙_, ap}
+use native.Mathlib.Omega.{arith}
+use lib.IntN.{natAbs}
+use mir.Syntax.{w32}
+use mir.Val.{ofZ}
+use Rattle.sums.proofs.Digits.{low-back, low-most, low-is}
+use Rattle.sums.proofs.sample.low.Statement.{statement}
+use Rattle.sums.proofs.sample.low.Tie as tie
+
+cast-result : tie.Need-cast-result
+cast-result c = rw (low-back (c .args .z)) (tt, record { fits = omega (arith, low-most (ofZ w32 (c .args .z))) })
+
+returns : tie.Need-returns
+returns c = rw (low-back (c .args .z)) (low-most (ofZ w32 (c .args .z)), λ h. low-is (c .args .z) h)
+
+pub low-spec : {M : Type 1} → statement M
+low-spec = tie.close (tie.spec cast-result returns)
