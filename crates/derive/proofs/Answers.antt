@@ -1,7 +1,7 @@
 -- What the answer is, test by test, and what a window that passes them has. Assumes nothing.
 use mathlib.Core.Path.{_≡_, refl, sym, _∙_, ap}
 use mathlib.Core.Bool.{Bool, true, false, cond, _&&_}
-use mathlib.Core.List.{List, [], _∷_, _++_}
+use mathlib.Core.List.{List, [], _∷_}
 use Prim.Native.Nat.{ℕ, _*_, _≤_}
 use native.Mathlib.Omega.{arith}
 use lib.Dec.{leb}
@@ -9,17 +9,17 @@ use lib.IntN.{ℤ}
 use lib.ListN.{length, set}
 use borrow.Author.Tests.{leb-true}
 use Rattle.numbers.specs.Answer.{isDone}
-use Rattle.numbers.specs.Depth.{isDepth, most}
+use Rattle.numbers.specs.Depth.{isDepth}
 use Rattle.numbers.specs.declared.answer.Answer.{Answer}
-use Rattle.numbers.specs.declared.answer.Answer.the-variants.{Done, BadDepth, BadColourSample, SumTooLarge}
+use Rattle.numbers.specs.declared.answer.Answer.the-variants.{Done, BadDepth}
 use Rattle.zint.proofs.Range.{and-both}
-use Rattle.ladder.specs.Ladder.{Rule, _else_, ladder}
+use Rattle.ladder.specs.Ladder.{Rule, ladder}
 use Rattle.ladder.proofs.Ladder.{all-kept}
 use Rattle.fixed.specs.declared.elimination.Params.{Params}
-use Rattle.sums.specs.Sum.{sumsOf, isReadable, Laid}
+use Rattle.sums.specs.Sum.{Laid}
 use Rattle.sums.specs.declared.window.Window.{Window}
-use Rattle.derive.specs.Rules.{isReference, isSmall, windowRules, sampleRules, deriveRules, deriveAnswer}
-use Rattle.derive.specs.Derived.{zeros, windowParams, derived, written}
+use Rattle.derive.specs.Rules.{isReference, windowRules, sampleRules, deriveRules, deriveAnswer}
+use Rattle.derive.specs.Derived.{zeros, windowParams, sampled, derived, written}
 use Rattle.derive.specs.declared.Derived.{Derived}
 use Rattle.derive.proofs.Later.{later-refused, later-done}
 
@@ -61,9 +61,6 @@ module _ (luma chroma : List ℤ) (w : Window) (direction D : ℕ) (room : Bool)
   unfolding deriveAnswer
   answer-samples e n = simp e (later-done rules (sampleRules luma chroma w direction D) n tt)
 
-  pub bad-sample : isReadable (most D) direction luma chroma w ≡ false → ladder (sampleRules luma chroma w direction D) ≡ BadColourSample
-  bad-sample e = ap (λ t. cond t (ladder (isSmall (sumsOf D direction luma chroma w) else SumTooLarge ∷ [])) BadColourSample) e
-
   -- what is returned
   pub derived-refused : (a : Answer) → deriveAnswer luma chroma w direction D room ≡ a → isDone a ≡ false
       → record { answer = a; params = zeros } ≡ derived luma chroma w direction D room
@@ -73,13 +70,10 @@ module _ (luma chroma : List ℤ) (w : Window) (direction D : ℕ) (room : Bool)
     params = (sym (ap (λ t. cond t (windowParams luma chroma w direction D) zeros) (ap isDone e ∙ n))) j;
   }
 
-  pub derived-done : (a : Answer) (p : Params) → deriveAnswer luma chroma w direction D room ≡ a → a ≡ Done → p ≡ windowParams luma chroma w direction D
-      → _≡_ {A = Derived} (record { answer = a; params = p }) (derived luma chroma w direction D room)
-  unfolding derived isDone
-  derived-done a p e n h = λ j. record {
-    answer = sym e j;
-    params = (h ∙ sym (ap (λ b. cond (isDone b) (windowParams luma chroma w direction D) zeros) (e ∙ n))) j;
-  }
+  pub derived-samples : deriveAnswer luma chroma w direction D room ≡ ladder (sampleRules luma chroma w direction D)
+      → sampled luma chroma w direction D ≡ derived luma chroma w direction D room
+  unfolding sampled derived
+  derived-samples e = ap (λ a. record { answer = a; params = cond (isDone a) (windowParams luma chroma w direction D) zeros }) (sym e)
 
   pub derived-params : isDone (deriveAnswer luma chroma w direction D room) ≡ true → derived luma chroma w direction D room .params ≡ windowParams luma chroma w direction D
   unfolding derived

@@ -1,4 +1,5 @@
--- Laws of the shift and of the refusals.
+-- Laws of the shift, of the samples and of the refusals.
 pub mod Reach
 pub mod Later
+pub mod Samples
 pub mod Answers

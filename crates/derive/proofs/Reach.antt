@@ -12,7 +12,7 @@ use Rattle.fixed.specs.Product.{ilog2}
 use Rattle.fixed.proofs.Shift.{either, ilog2-is, ilog2-le}
 use Rattle.sums.specs.Sum.{NineMost}
 use Rattle.sums.specs.declared.nine.Nine.{Nine}
-use Rattle.sums.proofs.Sizes.{wider}
+use Rattle.sums.proofs.Steps.{wider}
 use Rattle.derive.specs.Shift.{ceilLog2, reach, shifted}
 
 pub ceil-few : (n : ℕ) → n < 2 → ceilLog2 n ≡ 0
@@ -50,6 +50,22 @@ sums-reach D n s l h =
     powers =
         let e : 2 * D + ceilLog2 n ≡ ceilLog2 n + (D + D) = omega arith in
         ap (λ (k : ℕ). 2 ^ k) e ∙ pow-add 2 (ceilLog2 n) (D + D) ∙ ap (λ (k : ℕ). 2 ^ ceilLog2 n * k) (pow-add 2 D D)
+
+-- a shift up by 22 and then down by e is one by 22 - e
+pub shift-once : (e s : ℕ) → s * 2 ^ 22 / 2 ^ e ≡ shifted e s
+unfolding shifted
+shift-once e s = (λ j. up j / down j) ∙ N.mul-div-mul-right (s * 2 ^ (22 - e)) (2 ^ (e - 22)) (N.one-le-pow m 2 (N.zero-lt-suc 1))
+  where
+    m : ℕ
+    m = 22 - (22 - e)
+
+    up : s * 2 ^ 22 ≡ s * 2 ^ (22 - e) * 2 ^ m
+    up =
+        let k : 22 ≡ (22 - e) + m = omega arith in
+        ap (λ (x : ℕ). s * x) (ap (λ (x : ℕ). 2 ^ x) k ∙ pow-add 2 (22 - e) m) ∙ sym (N.mul-assoc s (2 ^ (22 - e)) (2 ^ m))
+
+    down : 2 ^ e ≡ 2 ^ (e - 22) * 2 ^ m
+    down = let k : e ≡ (e - 22) + m = omega arith in ap (λ (x : ℕ). 2 ^ x) k ∙ pow-add 2 (e - 22) m
 
 -- and so each ends at or below 2 ^ 22
 pub shifted-most : (e s : ℕ) → s ≤ 2 ^ e → shifted e s ≤ 2 ^ 22

@@ -7,12 +7,13 @@ use lib.IntN.{ℤ, pos}
 use lib.ListN.{length, drop}
 use Rattle.numbers.specs.Answer.{isDone}
 use Rattle.numbers.specs.declared.answer.Answer.{Answer}
+use Rattle.ladder.specs.Ladder.{ladder}
 use Rattle.ladder.specs.Promise.{lent, Promise}
 use Rattle.fixed.specs.declared.elimination.Params.{Params}
 use Rattle.sums.specs.Sum.{sumsOf, countOf}
 use Rattle.sums.specs.declared.window.Window.{Window}
 use Rattle.derive.specs.Shift.{paramsOf}
-use Rattle.derive.specs.Rules.{deriveAnswer}
+use Rattle.derive.specs.Rules.{sampleRules, deriveAnswer}
 use Rattle.derive.specs.declared.Derived.{Derived}
 
 abbrev pub zeros : Params
@@ -21,6 +22,13 @@ zeros = record { x0 = pos 0; x1 = pos 0; x2 = pos 0 }
 -- the parameters of a window that is accepted
 unfoldable pub windowParams : List ℤ → List ℤ → Window → ℕ → ℕ → Params
 windowParams luma chroma w direction D = paramsOf D (countOf w) (sumsOf D direction luma chroma w)
+
+-- what the samples of a window give that passed the tests before 13
+unfoldable pub sampled : List ℤ → List ℤ → Window → ℕ → ℕ → Derived
+sampled luma chroma w direction D = record {
+  answer = ladder (sampleRules luma chroma w direction D);
+  params = cond (isDone (ladder (sampleRules luma chroma w direction D))) (windowParams luma chroma w direction D) zeros;
+}
 
 unfoldable pub derived : List ℤ → List ℤ → Window → ℕ → ℕ → Bool → Derived
 derived luma chroma w direction D room = record {

@@ -6,13 +6,18 @@ pub mod solve;
 
 use fixed::elimination::Params;
 use numbers::answer::Answer;
+use numbers::depth::Depth;
 use numbers::depth::FoundDepth;
-use sums::gather::Scale;
+use sums::sample::Scale;
 use sums::window;
+use sums::window::Gathered;
 use sums::window::Window;
 ghost use mathlib.Core.Path.{_≡_};
 ghost use mathlib.Core.Bool.{true};
-ghost use Rattle.derive.specs.Derived.{zeros, derived, Written};
+ghost use Rattle.numbers.specs.Depth.{bitsOf};
+ghost use Rattle.numbers.specs.declared.answer.Answer.the-variants.{Done};
+ghost use Rattle.sums.specs.Sum.{Laid};
+ghost use Rattle.derive.specs.Derived.{zeros, sampled, derived, Written};
 
 // An answer, and the parameters: zeros where it refuses.
 pub struct Derived {
@@ -34,6 +39,35 @@ fn refused(answer: Answer) -> Derived
     }
 }
 
+// An acceptance.
+fn accepted(params: Params) -> Derived
+    ensures { λ r. ⌜ r ≡ record { answer = Done; params = params } ⌝ }
+{
+    Derived {
+        answer: Answer::Done,
+        params,
+    }
+}
+
+// What the samples of a window give that passed the tests before 13: its parameters, or a refusal.
+fn sampled(luma: &[i32], chroma: &[i32], w: Window, direction: u32, depth: Depth, d: u32) -> Derived
+    requires { ⌜ Laid w (now luma) (now chroma) × (bitsOf depth ≡ d) ⌝ }
+    ensures { λ r. ⌜ r ≡ sampled (now (luma .entry)) (now (chroma .entry)) w direction d ⌝ }
+{
+    let n = window::count_of(w);
+    if n == 0 {
+        return accepted(solve::flat());
+    }
+    let g = window::gather(luma, chroma, w, direction, Scale::of(depth, d));
+    let Gathered::Sums(s) = g else {
+        return refused(Answer::BadColourSample);
+    };
+    if !solve::is_small(s) {
+        return refused(Answer::SumTooLarge);
+    }
+    accepted(solve::params_of(s, n, depth, d))
+}
+
 // The parameters, or a refusal; `room` says whether the caller's list can take them.
 pub fn derive(
     luma: &[i32],
@@ -52,18 +86,7 @@ pub fn derive(
     if !answer.is_done() {
         return refused(answer);
     }
-    let g = window::gather(luma, chroma, w, direction, Scale::of(depth, d));
-    if !g.ok {
-        return refused(Answer::BadColourSample);
-    }
-    let s = g.sums;
-    if !solve::is_small(s) {
-        return refused(Answer::SumTooLarge);
-    }
-    Derived {
-        answer,
-        params: solve::params_of(s, window::count_of(w), depth, d),
-    }
+    sampled(luma, chroma, w, direction, depth, d)
 }
 
 // The parameters of a window, or a refusal with zeros.

@@ -3,11 +3,11 @@ use fixed::elimination::Sums;
 use fixed::product;
 use sums::nine::Nine;
 ghost use mathlib.Core.Path.{_≡_};
-ghost use Prim.Native.Nat.{_-_, _*_, _/_, _^_, _≤_};
+ghost use Prim.Native.Nat.{_^_, _≤_};
 ghost use lib.IntN.{pos};
 ghost use Rattle.fixed.specs.Elimination.{SumsIn};
 ghost use Rattle.sums.specs.Sum.{NineMost};
-ghost use Rattle.derive.specs.Shift.{ceilLog2, shiftedSums};
+ghost use Rattle.derive.specs.Shift.{ceilLog2, shifted, shiftedSums};
 
 // ceil(log2 n).
 pub fn ceil_log2(n: u32) -> u32
@@ -19,19 +19,12 @@ pub fn ceil_log2(n: u32) -> u32
     product::ilog2(n - 1) + 1
 }
 
-// a - b, and 0 where b is more.
-fn less(a: u32, b: u32) -> u32
-    ensures { λ r. ⌜ r ≡ a - b ⌝ }
+// s shifted by 22 - e: up by 22, and then down by e.
+fn shifted(s: u64, e: u32) -> i32
+    requires { ⌜ (s ≤ 2 ^ 41) × (s ≤ 2 ^ e) × (e ≤ 62) ⌝ }
+    ensures { λ r. ⌜ r ≡ pos (shifted e s) ⌝ }
 {
-    if a < b { 0 } else { a - b }
-}
-
-// s shifted up and then down.
-fn shifted(s: u64, up: u32, down: u32) -> i32
-    requires { ⌜ (s ≤ 2 ^ 41) × (up ≤ 22) × (down ≤ 40) × (s * 2 ^ up / 2 ^ down ≤ 2 ^ 22) ⌝ }
-    ensures { λ r. ⌜ r ≡ pos (s * 2 ^ up / 2 ^ down) ⌝ }
-{
-    ((s << up) >> down) as i32
+    ((s << 22) >> e) as i32
 }
 
 // The nine sums, each shifted by 22 - e.
@@ -39,17 +32,15 @@ pub fn shift_all(s: Nine, e: u32) -> Sums
     requires { ⌜ NineMost (2 ^ 41) s × NineMost (2 ^ e) s × (e ≤ 62) ⌝ }
     ensures { λ r. ⌜ (r ≡ shiftedSums e s) × SumsIn (2 ^ 22) r ⌝ }
 {
-    let up = less(22, e);
-    let down = less(e, 22);
     Sums {
-        a00: shifted(s.a00, up, down),
-        a01: shifted(s.a01, up, down),
-        a02: shifted(s.a02, up, down),
-        a11: shifted(s.a11, up, down),
-        a12: shifted(s.a12, up, down),
-        a22: shifted(s.a22, up, down),
-        y0: shifted(s.y0, up, down),
-        y1: shifted(s.y1, up, down),
-        y2: shifted(s.y2, up, down),
+        a00: shifted(s.a00, e),
+        a01: shifted(s.a01, e),
+        a02: shifted(s.a02, e),
+        a11: shifted(s.a11, e),
+        a12: shifted(s.a12, e),
+        a22: shifted(s.a22, e),
+        y0: shifted(s.y0, e),
+        y1: shifted(s.y1, e),
+        y2: shifted(s.y2, e),
     }
 }

@@ -9,7 +9,7 @@ ghost use Prim.Native.Nat.{_*_, _≤_};
 ghost use Rattle.numbers.specs.Depth.{bitsOf, most};
 ghost use Rattle.sums.specs.Sum.{NineMost};
 ghost use Rattle.derive.specs.Rules.{isSmall};
-ghost use Rattle.derive.specs.Shift.{paramsOf};
+ghost use Rattle.derive.specs.Shift.{flat, paramsOf};
 
 // The largest sum that is accepted.
 const LARGEST: u64 = 2147483647;
@@ -29,18 +29,22 @@ pub fn is_small(s: Nine) -> bool
         & (s.y2 <= LARGEST)
 }
 
-// The parameters of n samples with the sums s.
+// "No sample counted gives 0, 0, 65536."
+pub fn flat() -> Params
+    ensures { λ r. ⌜ r ≡ flat ⌝ }
+{
+    Params {
+        x0: 0,
+        x1: 0,
+        x2: 65536,
+    }
+}
+
+// The parameters of n samples, at least one, with the sums s.
 pub fn params_of(s: Nine, n: usize, depth: Depth, d: u32) -> Params
-    requires { ⌜ (bitsOf depth ≡ d) × (n ≤ 65536) × NineMost (n * (most d * most d)) s ⌝ }
+    requires { ⌜ (bitsOf depth ≡ d) × (1 ≤ n) × (n ≤ 65536) × NineMost (n * (most d * most d)) s ⌝ }
     ensures { λ r. ⌜ r ≡ paramsOf d n s ⌝ }
 {
-    if n == 0 {
-        return Params {
-            x0: 0,
-            x1: 0,
-            x2: 65536,
-        };
-    }
     let e = 2 * d + shift::ceil_log2(n as u32);
     elimination::gauss_elimination(shift::shift_all(s, e), elimination::regulariser(depth))
 }

@@ -1,6 +1,6 @@
 -- What is taken from a whole window: the test of refusal 13, and the sums where it holds. Assumes nothing.
 use mathlib.Core.Path.{_≡_, refl, sym, _∙_, ap}
-use mathlib.Core.Bool.{true, false, cond}
+use mathlib.Core.Bool.{Bool, true, false, cond}
 use mathlib.Core.List.{List}
 use Prim.Native.Nat.{ℕ, _+_, _-_, _*_, _^_, _≤_, _<_}
 use native.Mathlib.Omega.{arith}
@@ -8,6 +8,7 @@ use lib.IntN.{ℤ, pos}
 use Rattle.numbers.specs.Depth.{most}
 use Rattle.zint.proofs.Range.{pos-inside}
 use Rattle.terms.specs.Terms.{middle}
+use Rattle.sums.specs.declared.nine.Nine.{Nine}
 use Rattle.sums.specs.declared.lines.Totals.{Totals}
 use Rattle.sums.specs.declared.window.Window.{Window}
 use Rattle.sums.specs.declared.window.Gathered.the-variants.{Sums, OutOfRange}
@@ -57,3 +58,24 @@ module _ (D direction : ℕ) (luma chroma : List ℤ) (w : Window) (g r : Totals
   pub gathered-in : allIn (most D) (r .seen) ≡ true → gathered D direction luma chroma w ≡ Sums (scaled (middle D) (r .sums))
   unfolding gathered
   gathered-in h = ap (λ t. cond t (Sums (sumsOf D direction luma chroma w)) OutOfRange) (sym readable-is ∙ h) ∙ ap Sums (sym (sums-are h))
+
+-- which of the two it is
+pub gathered-sums : (D direction : ℕ) (luma chroma : List ℤ) (w : Window) (s : Nine) → gathered D direction luma chroma w ≡ Sums s
+    → (isReadable (most D) direction luma chroma w ≡ true) × (s ≡ sumsOf D direction luma chroma w)
+unfolding gathered
+gathered-sums D direction luma chroma w s = go (isReadable (most D) direction luma chroma w) refl
+  where
+    go : (t : Bool) → isReadable (most D) direction luma chroma w ≡ t → cond t (Sums (sumsOf D direction luma chroma w)) OutOfRange ≡ Sums s
+        → (isReadable (most D) direction luma chroma w ≡ true) × (s ≡ sumsOf D direction luma chroma w)
+    go true r e = (r, cc)
+    go false r e = let z : _≡_ {A = ℕ} 0 1 = cc in absurd (omega arith)
+
+pub gathered-none : (D direction : ℕ) (luma chroma : List ℤ) (w : Window) → gathered D direction luma chroma w ≡ OutOfRange
+    → isReadable (most D) direction luma chroma w ≡ false
+unfolding gathered
+gathered-none D direction luma chroma w = go (isReadable (most D) direction luma chroma w) refl
+  where
+    go : (t : Bool) → isReadable (most D) direction luma chroma w ≡ t → cond t (Sums (sumsOf D direction luma chroma w)) OutOfRange ≡ OutOfRange
+        → isReadable (most D) direction luma chroma w ≡ false
+    go true r e = let z : _≡_ {A = ℕ} 0 1 = cc in absurd (omega arith)
+    go false r e = r

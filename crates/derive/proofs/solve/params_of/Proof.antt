@@ -1,6 +1,6 @@
 -- `params_of` meets its contract: shifted sums are what elimination asks for. Assumes nothing.
 use borrow.Author.Needs.{needs, sfits-of}
-use borrow.Author.Tests.{eq-eqb, ne-eqb}
+use borrow.Author.Tests.{ne-eqb}
 use mathlib.Core.Path.{_≡_, sym, _∙_, ap, subst}
 use Prim.Native.Nat.{ℕ, _+_, _*_, _^_, _≤_}
 use native.Mathlib.Omega.{arith}
@@ -10,7 +10,7 @@ use mir.Syntax.{w32}
 use Rattle.zint.proofs.Bound.{back}
 use Rattle.fixed.specs.Elimination.{regular, solved}
 use Rattle.sums.specs.Sum.{NineMost}
-use Rattle.sums.proofs.Sizes.{wider}
+use Rattle.sums.proofs.Steps.{wider}
 use Rattle.sums.proofs.Ranges.{most-small, bits-most}
 use Rattle.derive.specs.Shift.{reach, shiftedSums, paramsOf}
 use Rattle.derive.proofs.Reach.{sums-reach}
@@ -20,16 +20,12 @@ use Rattle.derive.proofs.solve.params_of.Tie as tie
 small : (s : tie.Start) → s .args .d ≤ 12
 small s = subst (λ (k : ℕ). k ≤ 12) (s .pre .0) (bits-most (s .args .depth))
 
-reach-is : (c : tie.After-ceil-log2) → let s = c .before .before in 2 * s .args .d + c .ceil-log2 .result ≡ reach (s .args .d) (s .args .n)
+reach-is : (c : tie.After-ceil-log2) → let s = c .before in 2 * s .args .d + c .ceil-log2 .result ≡ reach (s .args .d) (s .args .n)
 unfolding reach
-reach-is c = ap (λ (k : ℕ). 2 * c .before .before .args .d + k) (c .ceil-log2 .ensures .0)
-
-returns : tie.Need-returns
-unfolding paramsOf
-returns c = simp (eq-eqb _ 0 (c .if1 .taken))
+reach-is c = ap (λ (k : ℕ). 2 * c .before .args .d + k) (c .ceil-log2 .ensures .0)
 
 mul-e : tie.Need-mul-e
-mul-e c = omega (arith, small (c .before))
+mul-e c = omega (arith, small c)
 
 cast-ceil-log2 : tie.Need-cast-ceil-log2
 cast-ceil-log2 c = search needs
@@ -38,14 +34,14 @@ ceil-log2-requires : tie.Need-ceil-log2-requires
 ceil-log2-requires c κs = search needs
 
 add-e : tie.Need-add-e
-add-e c = omega (arith, small (c .before .before), c .ceil-log2 .ensures .1)
+add-e c = omega (arith, small (c .before), c .ceil-log2 .ensures .1)
 
 shift-all-requires : tie.Need-shift-all-requires
 shift-all-requires c κs =
-    let s = c .before .before in
+    let s = c .before in
     let m = most-small (s .args .d) (small s) in (
-      wider (le-trans (mul-le-mul (s .pre .1) (mul-le-mul m m)) (omega arith)) (s .pre .2),
-      subst (λ (e : ℕ). NineMost (2 ^ e) (s .args .s)) (sym (reach-is c)) (sums-reach (s .args .d) (s .args .n) (s .args .s) (omega (arith, s .pre .1)) (s .pre .2)),
+      wider (le-trans (mul-le-mul (s .pre .2) (mul-le-mul m m)) (omega arith)) (s .pre .3),
+      subst (λ (e : ℕ). NineMost (2 ^ e) (s .args .s)) (sym (reach-is c)) (sums-reach (s .args .d) (s .args .n) (s .args .s) (omega (arith, s .pre .2)) (s .pre .3)),
       omega (arith, small s, c .ceil-log2 .ensures .1),
     )
 
@@ -57,22 +53,21 @@ gauss-elimination-requires c κs =
     let r = c .regulariser in
     (c .before .shift-all .ensures .1, rw (back w32 {z = r .result} (sfits-of (r .ok))) (r .ensures .1))
 
-returns-2 : tie.Need-returns-2
+returns : tie.Need-returns
 unfolding paramsOf
-returns-2 c =
+returns c =
     let r = c .before in
     let a = r .before in
     let k = a .before in
-    let s = k .before .before in
+    let s = k .before in
     let reg = back w32 {z = r .regulariser .result} (sfits-of (r .regulariser .ok)) ∙ r .regulariser .ensures .0 ∙ ap (λ (d : ℕ). pos (regular d)) (s .pre .0) in
     let sums = a .shift-all .ensures .0 ∙ ap (λ (e : ℕ). shiftedSums e (s .args .s)) (reach-is k) in
-    simp (ne-eqb (s .args .n) 0 (k .before .if1 .left)) (c .gauss-elimination .ensures .0 ∙ (λ j. solved (sums j) (reg j)))
+    simp (ne-eqb (s .args .n) 0 (λ z. absurd (omega (arith, s .pre .1)))) (c .gauss-elimination .ensures .0 ∙ (λ j. solved (sums j) (reg j)))
 
 pub params-of-spec : {M : Type 1} → statement M
 params-of-spec =
     tie.close
     (tie.spec
-    returns
     mul-e
     cast-ceil-log2
     ceil-log2-requires
@@ -80,4 +75,4 @@ params-of-spec =
     shift-all-requires
     regulariser-requires
     gauss-elimination-requires
-    returns-2)
+    returns)
