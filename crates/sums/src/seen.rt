@@ -17,10 +17,7 @@ impl Seen {
     pub fn new() -> Seen
         ensures { λ r. ⌜ r ≡ unseen ⌝ }
     {
-        Seen {
-            luma: 0,
-            chroma: 0,
-        }
+        Seen { luma: 0, chroma: 0 }
     }
 
     // The values of one sample more.

@@ -96,7 +96,14 @@ fn gather_above(luma: &[i32], chroma: &[i32], w: Window, direction: u32, scale: 
 }
 
 // The rows below them, inside the left lines: by columns where these are few, so that a line is long.
-fn gather_below(g: Totals, luma: &[i32], chroma: &[i32], w: Window, direction: u32, scale: Scale) -> Totals
+fn gather_below(
+    g: Totals,
+    luma: &[i32],
+    chroma: &[i32],
+    w: Window,
+    direction: u32,
+    scale: Scale,
+) -> Totals
     requires { ⌜ Laid w (now luma) (now chroma) × NineMost (2 ^ 40) (g .sums) × Scaled scale ⌝ }
     ensures { λ r. ⌜ TookBelow (scale .d) direction (now (luma .entry)) (now (chroma .entry)) w g r ⌝ }
 {

@@ -1,23 +1,23 @@
 -- `sampled` meets its contract: 13 and 14 in their order, and a window that passes both meets what elimination asks. Assumes nothing.
 use borrow.Author.Needs.{needs}
 use borrow.Author.Tests.{not-true, not-false}
-use mathlib.Core.Path.{_≡_, sym, _∙_, ap, subst}
-use mathlib.Core.Bool.{true}
+use mathlib.Core.Path.{sym, _∙_, subst}
 use Prim.Native.Nat.{ℕ, _*_, _≤_}
 use native.Mathlib.Omega.{arith}
 use Rattle.numbers.specs.Depth.{most}
 use Rattle.numbers.specs.declared.answer.Answer.the-variants.{Done}
-use Rattle.sums.specs.Sum.{sumsOf, isReadable, gathered, NineMost}
+use Rattle.sums.specs.Sum.{NineMost}
 use Rattle.sums.specs.declared.nine.Nine.{Nine}
 use Rattle.sums.proofs.Ranges.{bits-least}
 use Rattle.sums.proofs.Count.{count-most}
 use Rattle.sums.proofs.Sizes.{sums-most}
-use Rattle.sums.proofs.Whole.{gathered-sums, gathered-none}
+use Rattle.sums.proofs.Whole.{gathered-none}
 use Rattle.derive.specs.Shift.{paramsOf}
-use Rattle.derive.specs.Rules.{isSmall}
 use Rattle.derive.proofs.Samples.{sampled-none, sampled-bad, sampled-large, sampled-done}
+use Rattle.derive.proofs.sampled.Proof.Steps.{n, s, gathered-is, g, u, both, small-is}
 use Rattle.derive.proofs.sampled.Statement.{statement}
 use Rattle.derive.proofs.sampled.Tie as tie
+mod Steps
 
 count-of-requires : tie.Need-count-of-requires
 count-of-requires c κs = search needs
@@ -52,17 +52,6 @@ enum-told c = search needs
 refused-requires : tie.Need-refused-requires
 refused-requires c κs = search needs
 
--- what was gathered
-module _ (c : tie.After-gather) where
-  abbrev n : tie.After-count-of
-  n = c .before .before .before
-
-  abbrev s : tie.Start
-  s = n .before
-
-  gathered-is : c .gather .result ≡ gathered (s .args .d) (s .args .direction) (s .args .luma .now) (s .args .chroma .now) (s .args .w)
-  gathered-is = c .gather .ensures ∙ ap (λ d. gathered d (s .args .direction) (s .args .luma .now) (s .args .chroma .now) (s .args .w)) (c .before .of .ensures .0)
-
 returns-2 : tie.Need-returns-2
 returns-2 c =
     let g = c .before .before .before in
@@ -76,22 +65,6 @@ is-small-requires c κs = search needs
 
 refused-requires-2 : tie.Need-refused-requires-2
 refused-requires-2 c κs = search needs
-
--- the sums
-module _ (c : tie.After-is-small) where
-  abbrev g : tie.After-gather
-  g = c .before .before .before .before
-
-  abbrev u : tie.Start
-  u = s g
-
-  both : (isReadable (most (u .args .d)) (u .args .direction) (u .args .luma .now) (u .args .chroma .now) (u .args .w) ≡ true)
-      × (c .before .before .g .given .0 .0 ≡ sumsOf (u .args .d) (u .args .direction) (u .args .luma .now) (u .args .chroma .now) (u .args .w))
-  both = gathered-sums (u .args .d) (u .args .direction) (u .args .luma .now) (u .args .chroma .now) (u .args .w) (c .before .before .g .given .0 .0)
-      (sym (gathered-is g) ∙ c .before .before .g .given .1)
-
-  small-is : c .is-small .result ≡ isSmall (sumsOf (u .args .d) (u .args .direction) (u .args .luma .now) (u .args .chroma .now) (u .args .w))
-  small-is = c .is-small .ensures ∙ ap isSmall (both .1)
 
 returns-3 : tie.Need-returns-3
 returns-3 c =

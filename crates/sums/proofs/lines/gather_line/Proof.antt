@@ -1,24 +1,18 @@
--- `gather_line` meets its contract. The invariant: the first i places are tested, and in the part. Assumes nothing.
+-- `gather_line` meets its contract. Assumes nothing.
 use borrow.Author.Needs.{sfits-of}
 use mathlib.Core.Path.{_≡_, sym, subst}
-use Prim.Native.Nat.{ℕ, _+_, _*_, _-_, _≤_, _<_}
+use Prim.Native.Nat.{ℕ, _+_}
 use native.Mathlib.Omega.{arith}
 use lib.IntN.{pos}
-use lib.ListN.{length, getD}
+use lib.ListN.{getD}
 use mir.Syntax.{w32}
-use mir.Val.{toZ, ofZ}
 use Rattle.zint.proofs.Bound.{back}
-use Rattle.sums.specs.declared.part.Part.{Part}
 use Rattle.sums.proofs.Parts.{part-wider}
-use Rattle.sums.proofs.Lined.{InPart, Values, line-start, line-more, line-took}
+use Rattle.sums.proofs.Lined.{InPart, line-start, line-more, line-took}
+use Rattle.sums.proofs.lines.gather_line.Proof.Steps.{Inv-loop, μ-loop, s, far, near, own-near}
 use Rattle.sums.proofs.lines.gather_line.Statement.{statement}
 use Rattle.sums.proofs.lines.gather_line.Tie as tie
-
-abbrev Inv-loop : tie.InvT-loop
-Inv-loop g luma chroma own at n step scale seen₀ part₀ i₀ seen part i = (i ≤ n) × InPart (scale .d) luma chroma own at step g i seen part
-
-abbrev μ-loop : tie.MeasureT-loop
-μ-loop g luma chroma own at n step scale seen₀ part₀ i₀ seen part i = n - i
+mod Steps
 
 new-requires : tie.Need-new-requires Inv-loop μ-loop
 new-requires c κs = tt
@@ -27,20 +21,6 @@ loop-holds : tie.Need-loop-holds Inv-loop μ-loop
 loop-holds c =
     let s = c .before .before in
     (omega arith, subst (InPart (s .args .scale .d) _ _ _ _ _ (s .args .g) 0 (s .args .g .seen)) (sym (c .new .ensures)) (line-start (s .args .scale .d) _ _ _ _ _ (s .args .g)))
-
--- where place i stands
-module _ (c : tie.In-loop Inv-loop μ-loop) where
-  abbrev s : tie.Start Inv-loop μ-loop
-  s = c .before .before .before .before
-
-  abbrev far : ℕ
-  far = c .before .loop .i * s .args .step
-
-  near : (s .args .at + far < 65536) × (s .args .at + far < length (s .args .luma .now)) × (s .args .at + far < length (s .args .chroma .now))
-  near = s .pre .0 .reads (c .before .loop .i) (c .loop-test .taken)
-
-  own-near : s .args .own + far ≤ s .args .at + far
-  own-near = omega (arith, s .pre .0 .before)
 
 mul-far : tie.Need-mul-far Inv-loop μ-loop
 mul-far c = omega (arith, near c .0)

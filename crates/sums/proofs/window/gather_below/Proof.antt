@@ -57,22 +57,28 @@ module _ (c : tie.After-behind) where
   at-is : c .before .before .before .rows-above .result * 256 + 257 ≡ m * 256 + 257
   at-is = λ j. c .before .before .before .rows-above .ensures j * 256 + 257
 
-  columns-lines : _≡_ {A = Lines × ℕ} (record {
-    at = c .before .before .before .rows-above .result * 256 + 257;
-    lines = c .before .few .result;
-    apart = 1;
-    places = c .before .before .less .result - c .before .before .before .rows-above .result;
-    step = 256;
-  }, c .behind .result) (byColumns m r n, behind (s .args .direction))
+  columns-lines : _≡_ {A = Lines × ℕ} (
+    record {
+      at = c .before .before .before .rows-above .result * 256 + 257;
+      lines = c .before .few .result;
+      apart = 1;
+      places = c .before .before .less .result - c .before .before .before .rows-above .result;
+      step = 256;
+    },
+    c .behind .result,
+  ) (byColumns m r n, behind (s .args .direction))
   columns-lines = λ j. (record { at = at-is j; lines = c .before .few .ensures j; apart = 1; places = rows-are j; step = 256 }, c .behind .ensures j)
 
-  rows-lines : _≡_ {A = Lines × ℕ} (record {
-    at = c .before .before .before .rows-above .result * 256 + 257;
-    lines = c .before .before .less .result - c .before .before .before .rows-above .result;
-    apart = 256;
-    places = c .before .few .result;
-    step = 1;
-  }, c .behind .result) (byRows m r n, behind (s .args .direction))
+  rows-lines : _≡_ {A = Lines × ℕ} (
+    record {
+      at = c .before .before .before .rows-above .result * 256 + 257;
+      lines = c .before .before .less .result - c .before .before .before .rows-above .result;
+      apart = 256;
+      places = c .before .few .result;
+      step = 1;
+    },
+    c .behind .result,
+  ) (byRows m r n, behind (s .args .direction))
   rows-lines = λ j. (record { at = at-is j; lines = rows-are j; apart = 256; places = c .before .few .ensures j; step = 1 }, c .behind .ensures j)
 
 gather-lines-requires : tie.Need-gather-lines-requires
