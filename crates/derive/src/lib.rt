@@ -79,7 +79,7 @@ pub fn derive(
 ) -> Derived
     ensures { λ r. ⌜ r ≡ derived (now (luma .entry)) (now (chroma .entry)) w direction d room ⌝ }
 {
-    let FoundDepth::Is(depth) = rules::depth_of(d) else {
+    let FoundDepth::Is(depth) = terms::depth_of(d) else {
         return refused(Answer::BadDepth);
     };
     let answer = rules::answer_of(w, luma.len(), chroma.len(), direction, room);

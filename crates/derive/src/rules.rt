@@ -1,22 +1,9 @@
-// What `derive_params` tests before it looks at a sample (document 01, Refusal numbers): 2, then 10, 11, 12, 9.
+// What `derive_params` tests before it looks at a sample (document 01, Refusal numbers): 10, 11, 12, 9.
 use numbers::answer::Answer;
-use numbers::depth::Depth;
-use numbers::depth::FoundDepth;
 use sums::window::Window;
 ghost use mathlib.Core.Path.{_≡_};
-ghost use Rattle.numbers.specs.Depth.{depthOf};
 ghost use Rattle.ladder.specs.Ladder.{ladder};
 ghost use Rattle.derive.specs.Rules.{isReference, isLines, windowRules};
-
-// The depth whose D is d.
-pub fn depth_of(d: u32) -> FoundDepth
-    ensures { λ r. ⌜ r ≡ depthOf d ⌝ }
-{
-    if 65535 < d {
-        return FoundDepth::NoDepth;
-    }
-    Depth::of(d as u16)
-}
 
 // Whether the window's sizes are in range and its lists, of so many entries, hold its rows.
 fn is_reference(w: Window, luma: usize, chroma: usize) -> bool
