@@ -19,8 +19,7 @@ use Rattle.fixed.specs.declared.elimination.Params.{Params}
 use Rattle.sums.specs.Sum.{Laid}
 use Rattle.sums.specs.declared.window.Window.{Window}
 use Rattle.derive.specs.Rules.{isReference, windowRules, sampleRules, deriveRules, deriveAnswer}
-use Rattle.derive.specs.Derived.{zeros, windowParams, sampled, derived, written}
-use Rattle.derive.specs.declared.Derived.{Derived}
+use Rattle.derive.specs.Derived.{zeros, windowParams, answered, sampled, derived, written}
 use Rattle.derive.proofs.Later.{later-refused, later-done}
 
 pub laid : (w : Window) (luma chroma : List ℤ) → isReference w (length luma) (length chroma) ≡ true → Laid w luma chroma
@@ -73,7 +72,7 @@ module _ (luma chroma : List ℤ) (w : Window) (direction D : ℕ) (room : Bool)
   pub derived-samples : deriveAnswer luma chroma w direction D room ≡ ladder (sampleRules luma chroma w direction D)
       → sampled luma chroma w direction D ≡ derived luma chroma w direction D room
   unfolding sampled derived
-  derived-samples e = ap (λ a. record { answer = a; params = cond (isDone a) (windowParams luma chroma w direction D) zeros }) (sym e)
+  derived-samples e = ap (answered luma chroma w direction D) (sym e)
 
   pub derived-params : isDone (deriveAnswer luma chroma w direction D room) ≡ true → derived luma chroma w direction D room .params ≡ windowParams luma chroma w direction D
   unfolding derived

@@ -1,5 +1,5 @@
 -- What the samples of a window give: nothing counted, refusals 13 and 14, parameters. Assumes nothing.
-use mathlib.Core.Path.{_≡_, refl, sym, _∙_, ap}
+use mathlib.Core.Path.{_≡_, sym, _∙_, ap}
 use mathlib.Core.Bool.{true, false, cond}
 use mathlib.Core.List.{List}
 use Prim.Native.Nat.{ℕ}
@@ -10,41 +10,37 @@ use Rattle.numbers.specs.declared.answer.Answer.{Answer}
 use Rattle.numbers.specs.declared.answer.Answer.the-variants.{Done, BadColourSample, SumTooLarge}
 use Rattle.ladder.specs.Ladder.{ladder}
 use Rattle.fixed.specs.declared.elimination.Params.{Params}
-use Rattle.sums.specs.Sum.{none, sumsOf, countOf, isReadable}
+use Rattle.sums.specs.Sum.{sumsOf, countOf, isReadable}
 use Rattle.sums.specs.declared.window.Window.{Window}
 use Rattle.sums.proofs.Count.{none-readable, none-summed}
 use Rattle.derive.specs.Shift.{flat, paramsOf}
 use Rattle.derive.specs.Rules.{isSmall, sampleRules}
-use Rattle.derive.specs.Derived.{zeros, windowParams, sampled}
+use Rattle.derive.specs.Derived.{zeros, windowParams, answered, sampled}
 use Rattle.derive.specs.declared.Derived.{Derived}
 
 module _ (luma chroma : List ℤ) (w : Window) (direction D : ℕ) where
-  -- what goes with an answer
-  abbrev with : Answer → Derived
-  with a = record { answer = a; params = cond (isDone a) (windowParams luma chroma w direction D) zeros }
-
   abbrev answer : Answer
   answer = ladder (sampleRules luma chroma w direction D)
 
-  with-is : (a : Answer) → answer ≡ a → with a ≡ sampled luma chroma w direction D
+  answered-is : (a : Answer) → answer ≡ a → answered luma chroma w direction D a ≡ sampled luma chroma w direction D
   unfolding sampled
-  with-is a e = ap with (sym e)
+  answered-is a e = ap (answered luma chroma w direction D) (sym e)
 
   pub sampled-bad : isReadable (most D) direction luma chroma w ≡ false
       → record { answer = BadColourSample; params = zeros } ≡ sampled luma chroma w direction D
   unfolding isDone
-  sampled-bad r = with-is BadColourSample (λ j. cond (r j) (cond (isSmall (sumsOf D direction luma chroma w)) Done SumTooLarge) BadColourSample)
+  sampled-bad r = answered-is BadColourSample (λ j. cond (r j) (cond (isSmall (sumsOf D direction luma chroma w)) Done SumTooLarge) BadColourSample)
 
   pub sampled-large : isReadable (most D) direction luma chroma w ≡ true → isSmall (sumsOf D direction luma chroma w) ≡ false
       → record { answer = SumTooLarge; params = zeros } ≡ sampled luma chroma w direction D
   unfolding isDone
-  sampled-large r s = with-is SumTooLarge (λ j. cond (r j) (cond (s j) Done SumTooLarge) BadColourSample)
+  sampled-large r s = answered-is SumTooLarge (λ j. cond (r j) (cond (s j) Done SumTooLarge) BadColourSample)
 
   pub sampled-done : (p : Params) → isReadable (most D) direction luma chroma w ≡ true → isSmall (sumsOf D direction luma chroma w) ≡ true
       → p ≡ paramsOf D (countOf w) (sumsOf D direction luma chroma w) → _≡_ {A = Derived} (record { answer = Done; params = p }) (sampled luma chroma w direction D)
   unfolding isDone windowParams
   sampled-done p r s e =
-      (λ j. record { answer = Done; params = e j }) ∙ with-is Done (λ j. cond (r j) (cond (s j) Done SumTooLarge) BadColourSample)
+      (λ j. record { answer = Done; params = e j }) ∙ answered-is Done (λ j. cond (r j) (cond (s j) Done SumTooLarge) BadColourSample)
 
   pub sampled-none : countOf w ≡ 0 → _≡_ {A = Derived} (record { answer = Done; params = flat }) (sampled luma chroma w direction D)
   unfolding isSmall paramsOf

@@ -23,18 +23,17 @@ zeros = record { x0 = pos 0; x1 = pos 0; x2 = pos 0 }
 unfoldable pub windowParams : List ℤ → List ℤ → Window → ℕ → ℕ → Params
 windowParams luma chroma w direction D = paramsOf D (countOf w) (sumsOf D direction luma chroma w)
 
--- what the samples of a window give that passed the tests before 13
-unfoldable pub sampled : List ℤ → List ℤ → Window → ℕ → ℕ → Derived
-sampled luma chroma w direction D = record {
-  answer = ladder (sampleRules luma chroma w direction D);
-  params = cond (isDone (ladder (sampleRules luma chroma w direction D))) (windowParams luma chroma w direction D) zeros;
-}
+-- what goes with an answer
+abbrev pub answered : List ℤ → List ℤ → Window → ℕ → ℕ → Answer → Derived
+answered luma chroma w direction D a = record { answer = a; params = cond (isDone a) (windowParams luma chroma w direction D) zeros }
 
+-- of a window that passed the tests before 13
+unfoldable pub sampled : List ℤ → List ℤ → Window → ℕ → ℕ → Derived
+sampled luma chroma w direction D = answered luma chroma w direction D (ladder (sampleRules luma chroma w direction D))
+
+-- of any input
 unfoldable pub derived : List ℤ → List ℤ → Window → ℕ → ℕ → Bool → Derived
-derived luma chroma w direction D room = record {
-  answer = deriveAnswer luma chroma w direction D room;
-  params = cond (isDone (deriveAnswer luma chroma w direction D room)) (windowParams luma chroma w direction D) zeros;
-}
+derived luma chroma w direction D room = answered luma chroma w direction D (deriveAnswer luma chroma w direction D room)
 
 -- the parameters at the front of a list, whose tail is kept
 abbrev pub written : Params → List ℤ → List ℤ

@@ -1,8 +1,8 @@
 -- Laws of binary digits: numbers whose digits are joined are all below a power of two or the whole is not, and the last twelve digits of a number
 -- that has no more. Assumes nothing.
-use mathlib.Core.Path.{_≡_, refl, sym, _∙_, ap, subst}
+use mathlib.Core.Path.{_≡_, refl, sym, _∙_, ap}
 use mathlib.Core.Bool.{Bool, true, false, _&&_}
-use Prim.Native.Nat.{ℕ, suc, _+_, _-_, _*_, _%_, _^_, _≤_, _<_}
+use Prim.Native.Nat.{ℕ, suc, _+_, _-_, _*_, _^_, _≤_}
 use native.Mathlib.Omega.{arith}
 use native.Mathlib.Nat as N
 use lib.Bits.{bitAnd, bitOr, or-lt, or-add-and, and-le-l, and-le-r, and-mask, mask-lt}
@@ -13,7 +13,7 @@ use mir.Val.{SFits, toZ, ofZ}
 use borrow.Author.Tests.{lt-ltb, le-ltb, le-leb, lt-leb, ltb-true, ltb-false}
 use Rattle.numbers.specs.Depth.{most}
 use Rattle.zint.specs.Range.{inside}
-use Rattle.zint.proofs.Range.{inside-abs, inside-pos, pos-inside}
+use Rattle.zint.proofs.Range.{inside-abs, inside-pos}
 use Rattle.zint.proofs.Bound.{back, back-pos}
 use Rattle.terms.proofs.Most.{pow-le}
 

@@ -1,6 +1,6 @@
 -- Laws of the nine sums by parts: a sample that a part takes is one that the sums take once the middle of the range is in, how much a part can hold,
 -- and that the order of two samples makes no difference. Assumes nothing.
-use mathlib.Core.Path.{_≡_, refl}
+use mathlib.Core.Path.{_≡_}
 use Prim.Native.Nat.{ℕ, _+_, _*_, _≤_}
 use native.Mathlib.Nat as N
 use native.Mathlib.Omega.{arith}
@@ -9,7 +9,7 @@ use Rattle.terms.specs.Terms.{middle}
 use Rattle.sums.specs.declared.nine.Nine.{Nine}
 use Rattle.sums.specs.declared.part.Part.{Part}
 use Rattle.sums.specs.declared.sample.Sample.{Sample}
-use Rattle.sums.specs.Sample.{Terms, terms}
+use Rattle.sums.specs.Sample.{terms}
 use Rattle.sums.specs.Sum.{added, NineMost}
 use Rattle.sums.specs.Way.{sample, noPart, partAdded, plus, scaled, PartMost, SampleMost}
 

@@ -1,6 +1,6 @@
 -- Where a value that is needed stands, and how large the terms of a sample in range are, with D open. Assumes nothing.
 use mathlib.Core.Path.{_≡_, sym, _∙_, ap, subst}
-use mathlib.Core.Bool.{Bool, true, false, _&&_}
+use mathlib.Core.Bool.{true, _&&_}
 use mathlib.Core.List.{List}
 use Prim.Native.Nat.{ℕ, zero, suc, _+_, _-_, _*_, _/_, _^_, _≤_, _<_}
 use native.Mathlib.Omega.{arith}
@@ -14,7 +14,7 @@ use Rattle.numbers.specs.declared.depth.Depth.the-variants.{Eight, Ten, Twelve}
 use mir.Syntax.{w32}
 use mir.Val.{Fits}
 use Rattle.zint.specs.Range.{inside}
-use Rattle.zint.proofs.Range.{and-both, inside-abs, inside-pos, pos-inside}
+use Rattle.zint.proofs.Range.{and-both, inside-abs, inside-pos}
 use Rattle.terms.specs.Terms.{entry, eighth, middle, squared}
 use Rattle.terms.proofs.Most.{pow-le, eighth-in, squared-in, middle-most}
 use Rattle.sums.specs.Sample.{own, behind, inRange, Terms, terms}

@@ -1,6 +1,6 @@
 -- Laws of `Took`: nothing taken, one after the other, and the same said of other functions. Assumes nothing.
-use mathlib.Core.Path.{_≡_, refl, _∙_, ap, subst}
-use mathlib.Core.Bool.{Bool, true}
+use mathlib.Core.Path.{_≡_, refl, _∙_, ap}
+use mathlib.Core.Bool.{Bool}
 use Prim.Native.Nat.{ℕ, _+_, _≤_}
 use native.Mathlib.Nat as N
 use native.Mathlib.Omega.{arith}

@@ -2,7 +2,7 @@
 use mathlib.Core.Path.{_≡_, refl, sym, _∙_, ap}
 use mathlib.Core.Bool.{Bool, true, false, _&&_}
 use mathlib.Core.List.{List}
-use Prim.Native.Nat.{ℕ, zero, suc, _+_, _*_, _≤_, _<_}
+use Prim.Native.Nat.{ℕ, zero, suc, _+_, _*_}
 use native.Mathlib.Omega.{arith}
 use lib.IntN.{ℤ}
 use Rattle.sums.specs.declared.nine.Nine.{Nine}
@@ -10,7 +10,7 @@ use Rattle.sums.specs.Sample.{Terms}
 use Rattle.sums.specs.Places.{fold}
 use Rattle.sums.specs.Sum.{added, oneMore}
 use Rattle.sums.specs.Took.{readable}
-use Rattle.sums.proofs.Walks.{fold-none, fold-suc, fold-past}
+use Rattle.sums.proofs.Walks.{fold-past}
 
 module _ {A : Type 0} where
   -- a step that changes places with every step of a walk

@@ -1,5 +1,5 @@
 -- Rows of a window that were taken as lines of entries, by rows or by columns, were taken place by place. Assumes nothing.
-use mathlib.Core.Path.{_≡_, sym, _∙_}
+use mathlib.Core.Path.{sym, _∙_}
 use mathlib.Core.List.{List}
 use Prim.Native.Nat.{ℕ, suc, _+_, _^_}
 use native.Mathlib.Nat.{le-refl}

@@ -1,11 +1,11 @@
 -- `gather_lines` meets its contract. The invariant: the first j lines are taken. Assumes nothing.
 use mathlib.Core.Path.{_≡_, sym, ap}
-use Prim.Native.Nat.{ℕ, _+_, _*_, _-_, _^_, _≤_, _<_}
+use Prim.Native.Nat.{ℕ, _+_, _*_, _-_, _^_, _≤_}
 use native.Mathlib.Omega.{arith}
 use native.Mathlib.Nat.{mul-le-mul, le-refl}
 use Rattle.numbers.specs.Depth.{most}
 use Rattle.sums.specs.Sum.{NineMost}
-use Rattle.sums.specs.Took.{Took, Line, readAt, moreAt, overLine, overLines}
+use Rattle.sums.specs.Took.{Took, Line, readAt, moreAt, overLines}
 use Rattle.sums.proofs.Walks.{fold-none, fold-next}
 use Rattle.sums.proofs.Steps.{wider, took-none, took-then, took-as}
 use Rattle.sums.proofs.lines.gather_lines.Statement.{statement}

@@ -1,7 +1,5 @@
 -- `low` meets its contract. Assumes nothing.
-use mathlib.Core.Path.{_∙_, ap}
 use native.Mathlib.Omega.{arith}
-use lib.IntN.{natAbs}
 use mir.Syntax.{w32}
 use mir.Val.{ofZ}
 use Rattle.sums.proofs.Digits.{low-back, low-most, low-is}

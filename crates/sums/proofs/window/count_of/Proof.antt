@@ -1,7 +1,7 @@
 -- `count_of` meets its contract. Assumes nothing.
 use borrow.Author.Needs.{needs}
 use mathlib.Core.Path.{_≡_, sym, _∙_}
-use Prim.Native.Nat.{ℕ, _+_, _*_, _-_, _≤_}
+use Prim.Native.Nat.{_+_, _*_, _-_}
 use native.Mathlib.Omega.{arith}
 use Rattle.sums.specs.Places.{wide, high, rowsAbove, few}
 use Rattle.sums.proofs.Count.{count-is, few-rows}

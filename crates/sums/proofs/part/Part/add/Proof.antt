@@ -1,25 +1,21 @@
 -- `Part::add` meets its contract: 256 products of two numbers of twelve digits fit 32. Assumes nothing.
 use borrow.Author.Needs.{needs}
-use Prim.Native.Nat.{ℕ, _+_, _*_, _^_, _≤_, _<_}
 use native.Mathlib.Omega.{arith}
 use native.Mathlib.Nat.{mul-le-mul}
 use Rattle.sums.proofs.part.Part.add.Statement.{statement}
 use Rattle.sums.proofs.part.Part.add.Tie as tie
 
-room : {s a b : ℕ} → s ≤ 255 * (4095 * 4095) → a ≤ 4095 → b ≤ 4095 → s + a * b < 2 ^ 32
-room h k l = omega (arith, mul-le-mul k l)
-
 more-requires : tie.Need-more-requires
-more-requires c κs = room (c .pre .0 .a00) (c .pre .1 .own) (c .pre .1 .own)
+more-requires c κs = omega (arith, c .pre .0 .a00, mul-le-mul (c .pre .1 .own) (c .pre .1 .own))
 
 more-requires-2 : tie.Need-more-requires-2
-more-requires-2 c κs = let s = c .before in room (s .pre .0 .a01) (s .pre .1 .own) (s .pre .1 .square)
+more-requires-2 c κs = let s = c .before in omega (arith, s .pre .0 .a01, mul-le-mul (s .pre .1 .own) (s .pre .1 .square))
 
 more-requires-3 : tie.Need-more-requires-3
 more-requires-3 c κs = search needs
 
 more-requires-4 : tie.Need-more-requires-4
-more-requires-4 c κs = let s = c .before .before .before in room (s .pre .0 .a11) (s .pre .1 .square) (s .pre .1 .square)
+more-requires-4 c κs = let s = c .before .before .before in omega (arith, s .pre .0 .a11, mul-le-mul (s .pre .1 .square) (s .pre .1 .square))
 
 more-requires-5 : tie.Need-more-requires-5
 more-requires-5 c κs = search needs
@@ -28,10 +24,10 @@ more-requires-6 : tie.Need-more-requires-6
 more-requires-6 c κs = search needs
 
 more-requires-7 : tie.Need-more-requires-7
-more-requires-7 c κs = let s = c .before .before .before .before .before .before in room (s .pre .0 .y0) (s .pre .1 .own) (s .pre .1 .chroma)
+more-requires-7 c κs = let s = c .before .before .before .before .before .before in omega (arith, s .pre .0 .y0, mul-le-mul (s .pre .1 .own) (s .pre .1 .chroma))
 
 more-requires-8 : tie.Need-more-requires-8
-more-requires-8 c κs = let s = c .before .before .before .before .before .before .before in room (s .pre .0 .y1) (s .pre .1 .square) (s .pre .1 .chroma)
+more-requires-8 c κs = let s = c .before .before .before .before .before .before .before in omega (arith, s .pre .0 .y1, mul-le-mul (s .pre .1 .square) (s .pre .1 .chroma))
 
 more-requires-9 : tie.Need-more-requires-9
 more-requires-9 c κs = search needs
