@@ -6,6 +6,7 @@ mod direct;
 mod directional;
 mod draw;
 mod edges;
+mod elimination;
 mod guard;
 mod inputs;
 mod original;
@@ -33,6 +34,7 @@ fn main() {
     still::compare(&std::env::args().nth(2).unwrap_or_default());
     let windows = derive_params::compare(SEED, scale);
     let colour = predict_block::compare(SEED, scale);
+    let solved = elimination::compare(SEED, scale);
     print!("oracle: {samples} predicted samples, {sets} edge sets, ");
-    println!("{windows} colour windows, {colour} colour samples, 0 differences");
+    println!("{windows} colour windows, {colour} colour samples, {solved} eliminations, 0 differences");
 }

@@ -7,7 +7,7 @@ mod mhccp {
     include!(concat!(env!("LATCH_OPENED"), "/mhccp.rs"));
 }
 #[allow(unused_imports)]
-pub use mhccp::{derive_params, division_scale_shift, mul_fixed32_adapt, predict_block, MhccpRefBuf};
+pub use mhccp::{derive_params, division_scale_shift, gauss_elimination, mul_fixed32_adapt, predict_block, MhccpRefBuf};
 
 /// The Rust's own form of a window over a list; `is_top_sb_boundary` is no parameter of ours, and moves no read.
 pub fn ref_buf(w: &Window, data: &[i32], width: usize, height: usize, is_top_sb_boundary: bool) -> MhccpRefBuf {
