@@ -6,11 +6,8 @@ use native.Mathlib.Omega.{arith}
 use native.Mathlib.Nat as N
 use lib.Pow.{shl-exact}
 use lib.Dec.{ltb, lit<}
-use lib.IntN.{ℤ, pos, negsuc, negℤ, natAbs, _-ℤ_}
-use lib.Signed.{ltZ}
-use borrow.Author.Tests.{lt-ltb, le-ltb, ltb-true}
-use Rattle.zint.proofs.Parts.{same, sub, neg}
-use Rattle.zint.proofs.Order.{ltZ-false}
+use lib.IntN.{ℤ, pos, negsuc, natAbs}
+use borrow.Author.Tests.{lt-ltb, le-ltb}
 use Rattle.zint.proofs.Bound.{abs-neg}
 use Rattle.fixed.specs.Product.{signed, near, rounded}
 
@@ -51,18 +48,6 @@ rounded-near p (suc k) h l = simp (le-ltb 29 (suc k) l)
 pub near-is : (n k : ℕ) → 1 ≤ k → (n + 2 ^ (k - 1)) / 2 ^ k ≡ near n k
 near-is n zero h = absurd (omega arith)
 near-is n (suc k) h = let e : suc k - 1 ≡ k = omega arith in ap (λ (i : ℕ). (n + 2 ^ i) / 2 ^ suc k) e
-
-pub near-le : (n M k : ℕ) → 1 ≤ k → n ≤ 2 * M → near n k ≤ M
-near-le n M zero h l = absurd (omega arith)
-near-le n M (suc k) h l = near-half n M k l
-
-pub signed-neg : (p : ℤ) (n : ℕ) → ltZ p (pos 0) ≡ true → signed p n ≡ pos 0 -ℤ pos n
-signed-neg (pos m) n h = absurd (omega (arith, ltb-true m 0 h))
-signed-neg (negsuc m) n h = same (negℤ (pos n)) _ (omega (arith, sub (pos 0) (pos n), neg (pos n)))
-
-pub signed-pos : (p : ℤ) (n : ℕ) → ltZ p (pos 0) ≡ false → signed p n ≡ pos n
-signed-pos (pos m) n h = refl
-signed-pos (negsuc m) n h = absurd (omega (arith, ltZ-false (negsuc m) (pos 0) h))
 
 pub rounded-half : (p : ℤ) (M k : ℕ) → 1 ≤ k → natAbs p ≤ 2 * M → natAbs (rounded p k) ≤ M
 unfolding rounded

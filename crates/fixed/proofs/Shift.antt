@@ -1,10 +1,11 @@
 -- Powers of two, the highest set bit, and how large a shifted number is (document 01, Colour parameters). Assumes nothing.
-use mathlib.Core.Path.{_≡_, refl, sym, subst}
+use mathlib.Core.Path.{_≡_, refl, sym, ap, ap₂, _∙_, subst}
 use mathlib.Core.Bool.{Bool, true, false}
-use mathlib.Core.Logic.{_⊎_, inl, inr}
-use Prim.Native.Nat.{ℕ, suc, _+_, _-_, _/_, _^_, _≤_, _<_}
+use mathlib.Core.Logic.{_⊎_, inl, inr, ⊎-elim}
+use Prim.Native.Nat.{ℕ, suc, _+_, _-_, _*_, _/_, _^_, _≤_, _<_}
 use native.Mathlib.Omega.{arith}
 use native.Mathlib.Nat as N
+use lib.Bits.{bitOr, or-step, or-zero-r}
 use lib.Pow.{shr-lt}
 use lib.Count.{leadingZeros, leading-top, leading-of-zero}
 use lib.IntN.{ℤ, pos, negsuc, natAbs, _+ℤ_, _-ℤ_}
@@ -54,6 +55,33 @@ ilog2-le n = omega arith
 pub ilog2-zero : ilog2 0 ≡ 0
 unfolding ilog2
 ilog2-zero = simp leading-of-zero
+
+ilog2-one : ilog2 1 ≡ 0
+unfolding ilog2 leadingZeros
+ilog2-one = refl
+
+pub pow-below : (i k : ℕ) → 2 ^ i < 2 ^ k → i < k
+pow-below i k h = ⊎-elim (λ (l : k ≤ i). let g = pow-le {i = k} {j = i} l in absurd (omega arith)) (λ l. l) (either k i)
+
+-- the last bit set moves the highest one only of 0
+pub odd : (n : ℕ) → bitOr n 1 ≡ n / 2 * 2 + 1
+odd n = or-step n 1 ∙ ap₂ (λ (x y : ℕ). x * 2 + y) (or-zero-r (n / 2)) (omega arith)
+
+pub ilog2-odd : (n : ℕ) → n < 2 ^ 32 → ilog2 (bitOr n 1) ≡ ilog2 n
+ilog2-odd n h = ap ilog2 (odd n) ∙ ⊎-elim none some (N.eq-zero-or-pos n)
+  where
+    none : n ≡ 0 → ilog2 (n / 2 * 2 + 1) ≡ ilog2 n
+    none z = ap (λ (m : ℕ). ilog2 (m / 2 * 2 + 1)) z ∙ ilog2-one ∙ sym (ap ilog2 z ∙ ilog2-zero)
+
+    some : 0 < n → ilog2 (n / 2 * 2 + 1) ≡ ilog2 n
+    some p =
+        let a = ilog2-is n p h .0 in
+        let b = ilog2-is (n / 2 * 2 + 1) (omega arith) (omega arith) .0 in
+        let k = ilog2 n in
+        let j = ilog2 (n / 2 * 2 + 1) in
+        let up : k < suc j = pow-below k (suc j) (omega (arith, a .low, b .high)) in
+        let dn : j < suc k = pow-below j (suc k) (omega (arith, a .high, b .low, N.pow-succ' 2 k)) in
+        omega arith
 
 -- |z| has that many digits, whatever 32-bit number it is
 pub digits-most : (z : ℤ) → natAbs z < 2 ^ 32 → (natAbs z < 2 ^ digits z) × (digits z ≤ 32) × (1 ≤ digits z)

@@ -16,7 +16,7 @@ use Rattle.zint.specs.Range.{inside}
 use Rattle.zint.proofs.Range.{inside-abs, inside-pos}
 use Rattle.zint.proofs.Bound.{abs-times}
 use Rattle.fixed.specs.Product.{ilog2, digits, over, narrow, signed, near, rounded, mulFixed, limitOf}
-use Rattle.fixed.proofs.Shift.{either, pow-le, ilog2-is, ilog2-zero}
+use Rattle.fixed.proofs.Shift.{either, pow-le, pow-below, ilog2-is, ilog2-zero}
 use Rattle.fixed.proofs.Rounding.{rounded-near}
 use Rattle.fixed.proofs.Bounds.{digits-of}
 
@@ -29,9 +29,6 @@ unfolding limitOf
 limit-none a h = simp (lt-leb (digits a) 28 h)
 
 -- n < 2 ^ k has at most k digits, for 1 ≤ k
-pow-below : (i k : ℕ) → 2 ^ i < 2 ^ k → i < k
-pow-below i k h = ⊎-elim (λ (l : k ≤ i). let g = pow-le {i = k} {j = i} l in absurd (omega arith)) (λ l. l) (either k i)
-
 digits-few : (n k : ℕ) → 1 ≤ k → n < 2 ^ k → n < 2 ^ 32 → digits (pos n) ≤ k
 unfolding digits
 digits-few n k h l m =

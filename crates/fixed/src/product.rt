@@ -5,7 +5,7 @@ ghost use Prim.Native.Nat.{_≤_, _^_, _-_};
 ghost use mathlib.Core.Bool.{true};
 ghost use lib.IntN.{pos, natAbs};
 ghost use Rattle.zint.specs.Range.{inside};
-ghost use Rattle.fixed.specs.Product.{ilog2, digits, signed, near, rounded, mulFixed, limitOf};
+ghost use Rattle.fixed.specs.Product.{ilog2, digits, rounded, mulFixed, limitOf};
 
 // |a|, also of i32::MIN.
 pub fn magnitude(a: i32) -> u32
@@ -18,14 +18,11 @@ pub fn magnitude(a: i32) -> u32
     }
 }
 
-// The place of the highest set bit; 0 for 0.
+// The place of the highest set bit; 0 for 0, as for 1.
 pub fn ilog2(x: u32) -> u32
     ensures { λ r. ⌜ r ≡ ilog2 x ⌝ }
 {
-    if x == 0 {
-        return 0;
-    }
-    31 - u32::leading_zeros(x)
+    31 - u32::leading_zeros(x | 1)
 }
 
 // How many binary digits |a| has: 1 to 32.
@@ -35,24 +32,16 @@ pub fn digits(a: i32) -> u32
     ilog2(magnitude(a)) + 1
 }
 
-// n / 2 ^ k rounded to the nearest, halves up.
-pub fn nearest(n: u32, k: u32) -> u32
-    requires { ⌜ (n ≤ 2 ^ 31) × (1 ≤ k) × (k ≤ 29) ⌝ }
-    ensures { λ r. ⌜ (r ≡ near n k) × (r ≤ 2 ^ 30) ⌝ }
+// p / 2 ^ k rounded to the nearest, halves away from 0, with no branch: a shift rounds down, so a negative number has one less added.
+fn away(p: i32, k: u32) -> i32
+    requires { ⌜ (natAbs p ≤ 2 ^ 30) × (1 ≤ k) × (k ≤ 29) ⌝ }
+    ensures { λ r. ⌜ r ≡ rounded p k ⌝ }
 {
-    (n + (1 << (k - 1))) >> k
+    let half: u32 = 1 << (k - 1);
+    (p + half as i32 + (p >> 31)) >> k
 }
 
-// n with z's sign.
-fn with_sign(z: i32, n: u32) -> i32
-    requires { ⌜ n ≤ 2 ^ 30 ⌝ }
-    ensures { λ r. ⌜ r ≡ signed z n ⌝ }
-{
-    let q = n as i32;
-    if z < 0 { 0 - q } else { q }
-}
-
-// p / 2 ^ k rounded to the nearest, halves away from 0.
+// The same for any k: 0 leaves p, and above 29 nothing is left.
 fn rounded(p: i32, k: u32) -> i32
     requires { ⌜ natAbs p ≤ 2 ^ 30 ⌝ }
     ensures { λ r. ⌜ r ≡ rounded p k ⌝ }
@@ -63,7 +52,7 @@ fn rounded(p: i32, k: u32) -> i32
     if 29 < k {
         return 0;
     }
-    with_sign(p, nearest(magnitude(p), k))
+    away(p, k)
 }
 
 // a - b, and 0 where b is more.
@@ -81,15 +70,6 @@ pub fn mul_fixed32_adapt(a: i32, b: i32, shift: u32) -> i32
     let s1 = need / 2;
     let s2 = need - s1;
     rounded((a >> s1) * (b >> s2), above(shift, need))
-}
-
-// p / 2 ^ k rounded to the nearest, halves away from 0, with no branch.
-fn away(p: i32, k: u32) -> i32
-    requires { ⌜ (natAbs p ≤ 2 ^ 30) × (1 ≤ k) × (k ≤ 16) ⌝ }
-    ensures { λ r. ⌜ r ≡ rounded p k ⌝ }
-{
-    let half: u32 = 1 << (k - 1);
-    (p + half as i32 + (p >> 31)) >> k
 }
 
 // The product at shift 16 by a b in 0..4095, where n is how many digits a has: at most 15 digits are over, so that one is left to round by.

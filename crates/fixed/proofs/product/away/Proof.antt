@@ -24,13 +24,13 @@ module _ (c : tie.Start) where
   half : (1 * 2 ^ (k - 1)) % 2 ^ 32 ≡ 2 ^ (k - 1)
   half = one-shl (k - 1) (omega (arith, c .pre))
 
-  half-most : 2 ^ (k - 1) ≤ 2 ^ 15
-  half-most = pow-le {i = k - 1} {j = 15} (omega (arith, c .pre))
+  half-most : 2 ^ (k - 1) ≤ 2 ^ 28
+  half-most = pow-le {i = k - 1} {j = 28} (omega (arith, c .pre))
 
-  two : Bound (2 ^ 30 + 2 ^ 15) (p +ℤ pos (2 ^ (k - 1)))
-  two = b-add (b-abs {m = 2 ^ 30} {z = p} (c .pre .0)) (b-pos {m = 2 ^ 15} (2 ^ (k - 1)) half-most)
+  two : Bound (2 ^ 30 + 2 ^ 28) (p +ℤ pos (2 ^ (k - 1)))
+  two = b-add (b-abs {m = 2 ^ 30} {z = p} (c .pre .0)) (b-pos {m = 2 ^ 28} (2 ^ (k - 1)) half-most)
 
-  three : Bound (2 ^ 30 + 2 ^ 15 + 1) (p +ℤ pos (2 ^ (k - 1)) +ℤ shrZ p (2 ^ 31))
+  three : Bound (2 ^ 30 + 2 ^ 28 + 1) (p +ℤ pos (2 ^ (k - 1)) +ℤ shrZ p (2 ^ 31))
   three = b-add two (b-abs {m = 1} {z = shrZ p (2 ^ 31)} (sign-small p (c .pre .0)))
 
   sign : SFits w32 (shrZ p (2 ^ 31))

@@ -1,20 +1,20 @@
 -- `ilog2` meets its contract. Assumes nothing.
-use mathlib.Core.Path.{refl, sym, ap, _∙_}
 use native.Mathlib.Omega.{arith}
+use lib.Bits.{bitOr}
+use lib.Count.{leadingZeros}
 use Rattle.fixed.specs.Product.{ilog2}
-use Rattle.fixed.proofs.Shift.{ilog2-is, ilog2-zero}
+use Rattle.fixed.proofs.Shift.{odd, ilog2-is, ilog2-odd}
 use Rattle.fixed.proofs.product.ilog2.Statement.{statement}
 use Rattle.fixed.proofs.product.ilog2.Tie as tie
 
-returns : tie.Need-returns
-returns c = sym (ap ilog2 (c .if1 .taken) ∙ ilog2-zero)
-
 sub-result : tie.Need-sub-result
-sub-result c = let x = c .before .args .x in omega (arith, ilog2-is x (omega (arith, c .if1 .left)) (c .before .fits .x .fits) .1)
+sub-result c =
+    let n = bitOr (c .args .x) 1 in
+    omega (arith, odd (c .args .x), c .fits .x .fits, ilog2-is n (omega (arith, odd (c .args .x))) (omega (arith, odd (c .args .x), c .fits .x .fits)) .1)
 
-returns-2 : tie.Need-returns-2
+returns : tie.Need-returns
 unfolding ilog2
-returns-2 c = refl
+returns c = ilog2-odd (c .args .x) (c .fits .x .fits)
 
 pub ilog2-spec : {M : Type 1} → statement M
-ilog2-spec = tie.close (tie.spec returns sub-result returns-2)
+ilog2-spec = tie.close (tie.spec sub-result returns)
