@@ -1,6 +1,8 @@
 // A file of the list: each line that is no comment is a case.
 use crate::case;
+use crate::derived;
 use crate::directed;
+use crate::predicted;
 use crate::refs;
 
 pub struct Tally {
@@ -29,6 +31,8 @@ fn agrees(s: &[u8], at: usize, letter: u8) -> bool {
     match letter {
         b'R' => refs::agrees(s, at),
         b'D' => directed::agrees(s, at),
+        b'C' => derived::agrees(s, at),
+        b'B' => predicted::agrees(s, at),
         _ => case::agrees(s, at, letter),
     }
 }

@@ -1,7 +1,10 @@
 // Replays the list of the original's answers, data/*.txt (oracle/record made it), and prints how many cases there are and how many differ.
 mod case;
+mod colour;
+mod derived;
 mod directed;
 mod list;
+mod predicted;
 mod refs;
 mod room;
 

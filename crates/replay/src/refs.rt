@@ -3,7 +3,7 @@ use crate::room;
 use edges::spec::IntraRefSpec;
 
 // Whether two lists begin with the same n entries.
-fn same_entries(a: &[i32], b: &[i32], n: usize) -> bool {
+pub fn same_entries(a: &[i32], b: &[i32], n: usize) -> bool {
     if a.len() < n {
         return false;
     }

@@ -1,4 +1,4 @@
-// Room to work in: an edge, a block, a plane.
+// Room to work in: an edge, a block, a plane, sixteen rows of a colour window.
 ghost use mathlib.Core.Path.{_≡_};
 ghost use Prim.Native.Nat.{_<_};
 ghost use lib.ListN.{length};
@@ -19,6 +19,12 @@ pub fn plane() -> [f32; 8192]
     ensures { λ r. ⌜ 8192 ≡ length r ⌝ }
 {
     [0.0; 8192]
+}
+
+pub fn window() -> [i32; 4096]
+    ensures { λ r. ⌜ 4096 ≡ length r ⌝ }
+{
+    [0; 4096]
 }
 
 // How many samples a plane or a block has.
