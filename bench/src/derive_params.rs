@@ -10,12 +10,14 @@ use std::hint::black_box;
 
 const INPUTS: usize = 24;
 /// Sides of the windows, two more than those of the samples that can count.
-const SIDES: [usize; 5] = [6, 18, 34, 66, 130];
+const SIDES: [usize; 6] = [3, 6, 18, 34, 66, 130];
 /// Windows by the lines that they have above and at the left; of one line no sample counts.
-const LINES: [(&str, usize, usize); 4] = [
+const LINES: [(&str, usize, usize); 6] = [
+    ("nothing counted", 1, 1),
     ("a row and a column counted", 2, 2),
     ("two rows and two columns counted", 3, 3),
     ("a row counted", 2, 0),
+    ("a column counted", 0, 2),
     ("all counted", 256, 256),
 ];
 
