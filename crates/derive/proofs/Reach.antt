@@ -9,7 +9,8 @@ use lib.Pow.{pow-add}
 use borrow.Author.Tests.{lt-ltb, le-ltb}
 use Rattle.numbers.specs.Depth.{most}
 use Rattle.fixed.specs.Product.{ilog2}
-use Rattle.fixed.proofs.Shift.{either, ilog2-is, ilog2-le}
+use Rattle.zint.proofs.Naturals.{either}
+use Rattle.fixed.proofs.Shift.{ilog2-is, ilog2-le}
 use Rattle.sums.specs.Sum.{NineMost}
 use Rattle.sums.specs.declared.nine.Nine.{Nine}
 use Rattle.sums.proofs.Steps.{wider}

@@ -64,7 +64,7 @@ fn is_reach(
     if available == 0 {
         return false;
     }
-    start as usize + b as usize + edge::least(more as usize, b as usize) <= end
+    start as usize + b as usize + pick::least(more as usize, b as usize) <= end
 }
 
 // 5: the neighbours' samples.

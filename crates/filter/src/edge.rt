@@ -3,7 +3,7 @@ use crate::kernels;
 use crate::part;
 ghost use mathlib.Core.Path.{_≡_};
 ghost use mathlib.Core.Bool.{true};
-ghost use Prim.Native.Nat.{_≤_, _<_, _+_, min};
+ghost use Prim.Native.Nat.{_≤_, _<_, _+_};
 ghost use lib.ListN.{length};
 ghost use lib.IntN.{pos};
 ghost use Rattle.zint.specs.Range.{inside, Edge};
@@ -25,19 +25,12 @@ pub fn pad_edge(corner: i32, edge: &[i32], n: usize, size: usize, list: &mut [i3
     part::fill_part(edge[n - 1], &mut list[past..size]);
 }
 
-// The smaller of two.
-fn least(a: usize, b: usize) -> usize
-    ensures { λ r. ⌜ r ≡ min a b ⌝ }
-{
-    if a < b { a } else { b }
-}
-
 // The places 1 .. n of `pad`, filtered by the strength s below the limit.
 fn filter_part(s: usize, lim: usize, n: usize, pad: &[i32], to: &mut [i32])
     requires { ⌜ (0 < s) × (s ≤ 3) × (0 < lim) × (n ≤ 128) × (length (now to) ≡ n) × Ends n (now pad) ⌝ }
     ensures { λ _. ⌜ now (to .exit) ≡ tab (length (now (to .entry))) (λ i. filtered s lim n (place (now (pad .entry))) (i + 1)) ⌝ }
 {
-    let top = least(lim - 1, n);
+    let top = pick::least(lim - 1, n);
     let start = 0;
     let from = 3;
     kernels::blur_by(s, &pad[from..], &mut to[start..top]);

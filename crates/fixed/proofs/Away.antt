@@ -10,7 +10,7 @@ use lib.IntN.{ℤ, pos, negsuc, negℤ, natAbs, _+ℤ_}
 use lib.Signed.{shrZ}
 use Rattle.zint.proofs.Parts.{same, add}
 use Rattle.fixed.specs.Product.{near, rounded}
-use Rattle.fixed.proofs.Shift.{either}
+use Rattle.zint.proofs.Naturals.{either}
 use Rattle.fixed.proofs.Rounding.{near-is, rounded-near}
 
 pub double : (k : ℕ) → 1 ≤ k → 2 ^ k ≡ 2 ^ (k - 1) + 2 ^ (k - 1)

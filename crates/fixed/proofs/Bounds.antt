@@ -13,7 +13,8 @@ use mir.Syntax.{w32}
 use mir.Val.{SFits}
 use Rattle.zint.proofs.Bound.{abs-times, sfits-abs}
 use Rattle.fixed.specs.Product.{ilog2, digits, over, narrow, rounded, mulFixed}
-use Rattle.fixed.proofs.Shift.{pow-le, either, digits-most, shr-pow, shr-pow-pos}
+use Rattle.zint.proofs.Naturals.{either, pow-le}
+use Rattle.fixed.proofs.Shift.{digits-most, shr-pow, shr-pow-pos}
 use Rattle.fixed.proofs.Rounding.{rounded-half, rounded-le}
 
 mag-abs : (z : ℤ) → mag z ≤ natAbs z

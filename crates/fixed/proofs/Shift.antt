@@ -17,17 +17,8 @@ use lib.Dec.{T, leb}
 use borrow.Author.Tests.{ltb-true, leb-true, leb-false}
 use Rattle.zint.proofs.Parts.{same, add, sub, sfits}
 use Rattle.zint.proofs.Order.{ltZ-false}
+use Rattle.zint.proofs.Naturals.{either, pow-le}
 use Rattle.fixed.specs.Product.{ilog2, digits}
-
-pub pow-le : {i j : ℕ} → i ≤ j → 2 ^ i ≤ 2 ^ j
-pow-le h = N.pow-le-pow-right (N.zero-lt-suc 1) h
-
-pub either : (m n : ℕ) → (m ≤ n) ⊎ (n < m)
-either m n = go (leb m n) refl
-  where
-    go : (t : Bool) → leb m n ≡ t → (m ≤ n) ⊎ (n < m)
-    go true h = inl (leb-true m n h)
-    go false h = inr (leb-false m n h)
 
 -- ---- the highest set bit
 pub record Log (n k : ℕ) : Type 0 where

@@ -16,7 +16,8 @@ use Rattle.zint.specs.Range.{inside}
 use Rattle.zint.proofs.Range.{inside-abs, inside-pos}
 use Rattle.zint.proofs.Bound.{abs-times}
 use Rattle.fixed.specs.Product.{ilog2, digits, over, narrow, signed, near, rounded, mulFixed, limitOf}
-use Rattle.fixed.proofs.Shift.{either, pow-le, pow-below, ilog2-is, ilog2-zero}
+use Rattle.zint.proofs.Naturals.{either, pow-le}
+use Rattle.fixed.proofs.Shift.{pow-below, ilog2-is, ilog2-zero}
 use Rattle.fixed.proofs.Rounding.{rounded-near}
 use Rattle.fixed.proofs.Bounds.{digits-of}
 

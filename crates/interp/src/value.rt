@@ -1,26 +1,19 @@
 // One sample: its taps, and the clip to 0..m.
 ghost use mathlib.Core.Path.{_≡_};
-ghost use mathlib.Core.Bool.{true, cond};
+ghost use mathlib.Core.Bool.{true};
 ghost use Prim.Native.Nat.{_≤_};
 ghost use lib.IntN.{pos, natAbs, _*ℤ_};
 ghost use Rattle.zint.specs.Range.{inside};
 ghost use Rattle.lists.specs.Block.{sample};
 ghost use Rattle.interp.specs.Interp.{clip, taps4, taps2, Taps};
 
-// One of two, without a branch.
-fn either(first: bool, a: i32, b: i32) -> i32
-    ensures { λ r. ⌜ r ≡ cond first a b ⌝ }
-{
-    if first { a } else { b }
-}
-
 // The larger of x and 0, and then the smaller of that and m: two steps that the processor has for four numbers at once.
 fn clipped(x: i32, m: i32) -> i32
     requires { ⌜ inside (pos 4095) m ≡ true ⌝ }
     ensures { λ r. ⌜ r ≡ clip m x ⌝ }
 {
-    let y = either(x < 0, 0, x);
-    either(m < y, m, y)
+    let y = pick::either(x < 0, 0, x);
+    pick::either(m < y, m, y)
 }
 
 // A tap times an entry. Both are told as what they are, numbers of 16 binary digits, whose products the processor has at less cost.

@@ -4,7 +4,7 @@ use crate::run;
 use numbers::size::Size;
 ghost use mathlib.Core.Path.{_≡_};
 ghost use mathlib.Core.Bool.{true};
-ghost use Prim.Native.Nat.{ℕ, _*_, _≤_, _<_, min};
+ghost use Prim.Native.Nat.{ℕ, _*_, _≤_, _<_};
 ghost use lib.IntN.{pos};
 ghost use lib.ListN.{length};
 ghost use Rattle.zint.specs.Range.{inside};
@@ -13,13 +13,6 @@ ghost use Rattle.line.specs.Along.{along};
 ghost use Rattle.line.specs.Every.{every};
 ghost use Rattle.line.specs.Edge.{edgeOf};
 ghost use Rattle.line.specs.Run.{runAt, Line};
-
-// The smaller of two.
-pub fn least(a: usize, b: usize) -> usize
-    ensures { λ r. ⌜ r ≡ min a b ⌝ }
-{
-    if a < b { a } else { b }
-}
 
 // Whether each sample behind the 2 bs entries is a number in 0..m. Two runs that meet are tested as one.
 pub fn edge_in_range(
@@ -34,7 +27,7 @@ pub fn edge_in_range(
     requires { ⌜ Line (length (now plane)) start stride bs available top × (inside (pos 4095) m ≡ true) ⌝ }
     ensures { λ r. ⌜ r ≡ every (λ c. isSample m (runAt (now (plane .entry)) start stride (along bs available top c))) (2 * bs) ⌝ }
 {
-    let more = least(top, bs);
+    let more = pick::least(top, bs);
     if available >= bs {
         return run::run_in_range(plane, start, stride, bs + more, m);
     }
@@ -58,8 +51,8 @@ pub fn read_edge(
     requires { ⌜ ((c : ℕ) → c < 2 * bs → Readable (runAt (now plane) start stride (along bs available top c))) ⌝ }
     ensures { λ _. ⌜ now (edge .exit) ≡ edgeOf bs (λ c. pos (reading (runAt (now (plane .entry)) start stride (along bs available top c)))) (now (edge .entry)) ⌝ }
 {
-    let near = least(bs, available);
-    let end = bs + least(top, bs);
+    let near = pick::least(bs, available);
+    let end = bs + pick::least(top, bs);
     let all = 2 * bs;
     let cap = Size::REF_CAP;
     run::read_and_repeat(plane, start, stride, 0, near, bs, edge);

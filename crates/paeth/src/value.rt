@@ -1,6 +1,5 @@
 // One sample. With x = top - corner and y = left - corner, b = left + top - corner lies |x| from left, |y| from top and |x + y| from corner.
 ghost use mathlib.Core.Path.{_≡_};
-ghost use mathlib.Core.Bool.{cond};
 ghost use Prim.Native.Nat.{_+_, _^_, _≤_, _<_};
 ghost use lib.IntN.{pos, natAbs, negℤ};
 ghost use Rattle.lists.specs.Block.{sample};
@@ -14,13 +13,6 @@ fn nearness(a: i32, b: i32) -> i32
     if a > b { b - a } else { a - b }
 }
 
-// One of two, without a branch.
-fn either(first: bool, a: i32, b: i32) -> i32
-    ensures { λ r. ⌜ r ≡ cond first a b ⌝ }
-{
-    if first { a } else { b }
-}
-
 // The nearest of left, top and corner to left + top - corner, chosen by how far it lies from corner.
 pub fn paeth_single(left: i32, top: i32, corner: i32) -> i32
     requires { ⌜ (natAbs left ≤ 4095) × (natAbs top ≤ 4095) × (natAbs corner ≤ 4095) ⌝ }
@@ -31,9 +23,9 @@ pub fn paeth_single(left: i32, top: i32, corner: i32) -> i32
     let x = top - corner;
     let y = left - corner;
     let to_corner = nearness(x + y, 0);
-    let other = either(to_top >= to_corner, x, 0);
-    let nearest = either(to_left >= to_corner, y, other);
-    corner + either(to_left >= to_top, nearest, other)
+    let other = pick::either(to_top >= to_corner, x, 0);
+    let nearest = pick::either(to_left >= to_corner, y, other);
+    corner + pick::either(to_left >= to_top, nearest, other)
 }
 
 // The same as a sample.

@@ -7,15 +7,9 @@ use native.Mathlib.Omega.{arith}
 use lib.Dec.{ltb, leb}
 use borrow.Author.Tests.{lt-ltb, le-ltb, le-leb, lt-leb, ltb-true, leb-true, leb-false}
 use Rattle.zint.proofs.Range.{and-both}
+use Rattle.zint.proofs.Naturals.{either}
 use Rattle.sums.specs.Places.{within, counts, wide, high, rowsAbove, few}
 use Rattle.sums.specs.declared.window.Window.{Window}
-
-pub either : (m n : ℕ) → (m ≤ n) ⊎ (n < m)
-either m n = go (leb m n) refl
-  where
-    go : (t : Bool) → leb m n ≡ t → (m ≤ n) ⊎ (n < m)
-    go true h = inl (leb-true m n h)
-    go false h = inr (leb-false m n h)
 
 -- ---- which places count
 within-yes : (n i : ℕ) → 1 ≤ i → i + 1 < n → within n i ≡ true

@@ -1,21 +1,19 @@
--- Laws of binary digits: numbers whose digits are joined are all below a power of two or the whole is not, and the last twelve digits of a number
--- that has no more. Assumes nothing.
+-- Laws of binary digits: numbers whose digits are joined are all below a power of two, or the whole is not. Assumes nothing.
 use mathlib.Core.Path.{_≡_, refl, sym, _∙_, ap}
 use mathlib.Core.Bool.{Bool, true, false, _&&_}
 use Prim.Native.Nat.{ℕ, suc, _+_, _-_, _*_, _^_, _≤_}
 use native.Mathlib.Omega.{arith}
 use native.Mathlib.Nat as N
-use lib.Bits.{bitAnd, bitOr, or-lt, or-add-and, and-le-l, and-le-r, and-mask, mask-lt}
+use lib.Bits.{bitOr, or-lt, or-add-and, and-le-l, and-le-r}
 use lib.Dec.{ltb, leb}
-use lib.IntN.{ℤ, pos, natAbs}
+use lib.IntN.{ℤ, pos}
 use mir.Syntax.{w32}
 use mir.Val.{SFits, toZ, ofZ}
 use borrow.Author.Tests.{lt-ltb, le-ltb, le-leb, lt-leb, ltb-true, ltb-false}
 use Rattle.numbers.specs.Depth.{most}
 use Rattle.zint.specs.Range.{inside}
-use Rattle.zint.proofs.Range.{inside-abs, inside-pos}
 use Rattle.zint.proofs.Bound.{back, back-pos}
-use Rattle.terms.proofs.Most.{pow-le}
+use Rattle.zint.proofs.Naturals.{pow-le}
 
 -- ---- a number of 32 digits is in 0..2^k-1 exactly when its digits are below 2^k
 inside-digits : (k n : ℕ) → k ≤ 31 → inside (pos (2 ^ k - 1)) (toZ w32 n) ≡ ltb n (2 ^ k)
@@ -62,17 +60,3 @@ module _ (k : ℕ) (h : k ≤ 31) where
 -- "0..8M+7"
 pub top-is : (D : ℕ) → 8 * most D + 7 ≡ 2 ^ suc (suc (suc D)) - 1
 top-is D = omega (arith, N.pow-succ' 2 (suc (suc D)), N.pow-succ' 2 (suc D), N.pow-succ' 2 D, N.one-le-pow D 2 (N.zero-lt-suc 1))
-
--- ---- the last twelve digits
-pub low-back : (z : ℤ) → toZ w32 (bitAnd (ofZ w32 z) 4095) ≡ pos (bitAnd (ofZ w32 z) 4095)
-low-back z = back-pos w32 _ (omega (arith, mask-lt (ofZ w32 z) 12))
-
-pub low-most : (n : ℕ) → bitAnd n 4095 ≤ 4095
-low-most n = omega (arith, mask-lt n 12)
-
-pub low-all : (n : ℕ) → n ≤ 4095 → bitAnd n 4095 ≡ n
-low-all n h = and-mask n 12 ∙ N.mod-eq-of-lt (omega arith)
-
-pub low-is : (z : ℤ) → inside (pos 4095) z ≡ true → bitAnd (ofZ w32 z) 4095 ≡ natAbs z
-low-is z e =
-    ap (λ (x : ℤ). bitAnd (ofZ w32 x) 4095) (inside-pos 4095 z e) ∙ low-all (natAbs z) (inside-abs 4095 z e)

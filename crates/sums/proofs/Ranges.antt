@@ -16,7 +16,8 @@ use mir.Val.{Fits}
 use Rattle.zint.specs.Range.{inside}
 use Rattle.zint.proofs.Range.{and-both, inside-abs, inside-pos}
 use Rattle.terms.specs.Terms.{entry, eighth, middle, squared}
-use Rattle.terms.proofs.Most.{pow-le, eighth-in, squared-in, middle-most}
+use Rattle.zint.proofs.Naturals.{pow-le}
+use Rattle.terms.proofs.Most.{eighth-in, squared-in, middle-most}
 use Rattle.sums.specs.Sample.{own, behind, inRange, Terms, terms}
 
 -- the direction's luma, by its distance from the centre

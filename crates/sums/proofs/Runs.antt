@@ -7,7 +7,8 @@ use native.Mathlib.Omega.{arith}
 use Rattle.sums.specs.Places.{counts, fold, row, walk, wide, high, rowsAbove, few, block, above, below}
 use Rattle.sums.specs.declared.window.Window.{Window}
 use Rattle.sums.proofs.Walks.{fold-none, fold-suc, fold-past, fold-shift}
-use Rattle.sums.proofs.Counted.{either, no-column, no-row, in-above, past-above, in-below, past-below}
+use Rattle.zint.proofs.Naturals.{either}
+use Rattle.sums.proofs.Counted.{no-column, no-row, in-above, past-above, in-below, past-below}
 
 module _ {A : Type 0} (w : Window) (f : ℕ → ℕ → A → A) where
   abbrev step : ℕ → ℕ → A → A

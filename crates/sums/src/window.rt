@@ -7,7 +7,7 @@ use crate::nine::Nine;
 use crate::sample::Scale;
 use crate::seen::Seen;
 ghost use mathlib.Core.Path.{_≡_};
-ghost use Prim.Native.Nat.{_-_, _≤_, _^_, min};
+ghost use Prim.Native.Nat.{_-_, _≤_, _^_};
 ghost use Rattle.sums.specs.Sample.{behind};
 ghost use Rattle.sums.specs.Places.{rowsAbove, few};
 ghost use Rattle.sums.specs.Sum.{Laid, NineMost, countOf, gathered};
@@ -35,25 +35,18 @@ fn less(a: usize, b: usize) -> usize
     if a < b { 0 } else { a - b }
 }
 
-// The smaller of the two.
-fn least(a: usize, b: usize) -> usize
-    ensures { λ r. ⌜ r ≡ min a b ⌝ }
-{
-    if a < b { a } else { b }
-}
-
 // How many rows have all their columns inside the above lines.
 fn rows_above(w: Window) -> usize
     ensures { λ r. ⌜ r ≡ rowsAbove w ⌝ }
 {
-    least(less(w.above_lines, 1), less(w.ref_height, 2))
+    pick::least(less(w.above_lines, 1), less(w.ref_height, 2))
 }
 
 // How many columns of the other rows are inside the left lines.
 fn few(w: Window) -> usize
     ensures { λ r. ⌜ r ≡ few w ⌝ }
 {
-    least(less(w.left_lines, 1), less(w.ref_width, 2))
+    pick::least(less(w.left_lines, 1), less(w.ref_width, 2))
 }
 
 // How many places count.

@@ -11,9 +11,6 @@ use Rattle.zint.specs.Range.{inside}
 use Rattle.zint.proofs.Range.{inside-abs, inside-pos, pos-inside}
 use Rattle.terms.specs.Terms.{eighth, middle, squared}
 
-pub pow-le : {i j : ℕ} → i ≤ j → 2 ^ i ≤ 2 ^ j
-pow-le h = N.pow-le-pow-right (N.zero-lt-suc 1) h
-
 -- "0..8M+7": an eighth is in 0..M
 pub eighth-in : (m : ℕ) (v : ℤ) → inside (pos (8 * m + 7)) v ≡ true → inside (pos m) (eighth v) ≡ true
 eighth-in m v e =

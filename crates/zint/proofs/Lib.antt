@@ -5,3 +5,4 @@ pub mod Bound
 pub mod Range
 pub mod Diff
 pub mod Mean
+pub mod Naturals

@@ -10,7 +10,7 @@ use borrow.Author.Needs.{needs}
 use Rattle.zint.proofs.Bound.{Bound, b-abs, b-add, b-mul, b-shr, b-fits, back}
 use Rattle.zint.proofs.Range.{inside-abs}
 use Rattle.terms.specs.Terms.{middle, squared}
-use Rattle.terms.proofs.Most.{pow-le}
+use Rattle.zint.proofs.Naturals.{pow-le}
 use Rattle.terms.proofs.squared.Statement.{statement}
 use Rattle.terms.proofs.squared.Tie as tie
 

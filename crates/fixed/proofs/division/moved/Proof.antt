@@ -8,7 +8,8 @@ use lib.Pow.{shl-exact}
 use borrow.Author.Needs.{needs}
 use borrow.Author.Tests.{lt-ltb, le-ltb}
 use Rattle.fixed.specs.Division.{dropped, moved}
-use Rattle.fixed.proofs.Shift.{pow-le, ilog2-is, ilog2-le}
+use Rattle.zint.proofs.Naturals.{pow-le}
+use Rattle.fixed.proofs.Shift.{ilog2-is, ilog2-le}
 use Rattle.fixed.proofs.Rounding.{one-shl}
 use Rattle.fixed.proofs.division.moved.Statement.{statement}
 use Rattle.fixed.proofs.division.moved.Tie as tie

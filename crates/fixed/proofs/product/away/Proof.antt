@@ -8,7 +8,8 @@ use mir.Syntax.{w32}
 use mir.Val.{SFits}
 use borrow.Author.Needs.{needs}
 use Rattle.zint.proofs.Bound.{Bound, b-abs, b-pos, b-add, b-shr, b-fits, back, back-pos}
-use Rattle.fixed.proofs.Shift.{pow-le, shr-fits}
+use Rattle.zint.proofs.Naturals.{pow-le}
+use Rattle.fixed.proofs.Shift.{shr-fits}
 use Rattle.fixed.proofs.Rounding.{one-shl}
 use Rattle.fixed.proofs.Away.{sign-small, away-is}
 use Rattle.fixed.proofs.product.away.Statement.{statement}

@@ -1,19 +1,17 @@
 -- `product` meets its contract: a tap fits 16 bits, and an entry has no more than twelve. Assumes nothing.
 use native.Mathlib.Omega.{arith}
 use mathlib.Core.Path.{_≡_, sym, _∙_, ap}
-use Prim.Native.Nat.{ℕ, _≤_, _%_}
-use lib.Bits.{bitAnd, and-mask}
-use lib.IntN.{ℤ, pos, natAbs, _*ℤ_}
+use Prim.Native.Nat.{_≤_}
+use lib.Bits.{bitAnd}
+use lib.IntN.{pos, natAbs, _*ℤ_}
 use mir.Syntax.{w16, w32}
 use mir.Val.{SFits, toZ, ofZ}
 use mir.Facts.{toZ-ofZ}
 use Rattle.zint.proofs.Range.{inside-abs, inside-pos}
-use Rattle.zint.proofs.Bound.{b-abs, b-mul, b-fits, sfits-abs, back, back-pos, widens, widened}
+use Rattle.zint.proofs.Naturals.{low-back, low-is}
+use Rattle.zint.proofs.Bound.{b-abs, b-mul, b-fits, sfits-abs, back, widens, widened}
 use Rattle.interp.proofs.value.product.Statement.{statement}
 use Rattle.interp.proofs.value.product.Tie as tie
-
-whole : (n : ℕ) → n ≤ 4095 → n % 4096 ≡ n
-whole n h = omega arith
 
 module _ (s : tie.Start) where
   short : SFits w16 (s .args .f)
@@ -24,12 +22,9 @@ module _ (s : tie.Start) where
 
   entry : toZ w32 (bitAnd (ofZ w32 (s .args .a)) 4095) ≡ s .args .a
   entry =
-      let n = natAbs (s .args .a) in
-      let is = inside-pos 4095 (s .args .a) (s .pre .1) in
-      ap (λ (z : ℤ). toZ w32 (bitAnd (ofZ w32 z) 4095)) is
-      ∙ ap (toZ w32) (and-mask n 12 ∙ whole n small)
-      ∙ back-pos w32 n (omega (arith, small))
-      ∙ sym is
+      low-back (s .args .a)
+      ∙ ap pos (low-is (s .args .a) (s .pre .1))
+      ∙ sym (inside-pos 4095 (s .args .a) (s .pre .1))
 
   fits : SFits w32 (s .args .f *ℤ s .args .a)
   fits = b-fits w32 (b-mul (b-abs {m = 128} {z = s .args .f} (s .pre .0)) (b-abs {m = 4095} {z = s .args .a} small)) tt

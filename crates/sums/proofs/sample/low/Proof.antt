@@ -2,7 +2,7 @@
 use native.Mathlib.Omega.{arith}
 use mir.Syntax.{w32}
 use mir.Val.{ofZ}
-use Rattle.sums.proofs.Digits.{low-back, low-most, low-is}
+use Rattle.zint.proofs.Naturals.{low-back, low-most, low-is}
 use Rattle.sums.proofs.sample.low.Statement.{statement}
 use Rattle.sums.proofs.sample.low.Tie as tie
 

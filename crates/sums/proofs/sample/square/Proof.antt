@@ -3,7 +3,7 @@ use borrow.Author.Needs.{needs}
 use Prim.Native.Nat.{_+_, _*_, _/_, _^_}
 use native.Mathlib.Nat.{mul-le-mul}
 use native.Mathlib.Omega.{arith}
-use Rattle.sums.proofs.Digits.{low-most, low-all}
+use Rattle.zint.proofs.Naturals.{low-most, low-all}
 use Rattle.sums.proofs.sample.square.Statement.{statement}
 use Rattle.sums.proofs.sample.square.Tie as tie
 

@@ -4,7 +4,7 @@ use borrow.Author.Tests.{not-true, not-false}
 use mathlib.Core.Path.{sym, _∙_, ap}
 use Prim.Native.Nat.{ℕ, _-_}
 use native.Mathlib.Omega.{arith}
-use Rattle.terms.proofs.Most.{pow-le}
+use Rattle.zint.proofs.Naturals.{pow-le}
 use Rattle.sums.specs.declared.window.Gathered.the-variants.{Sums}
 use Rattle.sums.specs.Way.{scaled}
 use Rattle.sums.proofs.Steps.{nine-start}

@@ -1,8 +1,7 @@
 -- `either` meets its contract. Assumes nothing.
-use mathlib.Core.Path.{_≡_}
 use mir.Facts.{toZ-ofZ}
-use Rattle.paeth.proofs.value.either.Statement.{statement}
-use Rattle.paeth.proofs.value.either.Tie as tie
+use Rattle.pick.proofs.either.Statement.{statement}
+use Rattle.pick.proofs.either.Tie as tie
 
 returns : tie.Need-returns
 returns c =
