@@ -4,7 +4,7 @@ use crate::colour::original::{ref_buf, MhccpRefBuf};
 use crate::colour::window::{luma_most, Window, DIRECTIONS};
 use crate::colour::{draw, refusals};
 use crate::random::Random;
-use crate::timing::{best, over, print_ratios, print_sizes, print_times};
+use crate::timing::{best, lent, over, print_ratios, print_sizes, print_times};
 use crate::{calls, rust};
 use std::hint::black_box;
 
@@ -62,7 +62,7 @@ fn two_ways(inputs: &[Input]) -> [f64; 2] {
             &mut |loops| {
                 over(inputs, loops, |i| {
                     let i = black_box(i);
-                    _ = black_box(calls::derive_params(&i.window, &i.luma.data, &i.chroma.data, black_box(&mut params)))
+                    _ = black_box(calls::derive_params(&i.window, &i.luma.data, &i.chroma.data, lent(&mut params)))
                 })
             },
         ],

@@ -3,7 +3,7 @@ use crate::inputs::good_sample;
 use crate::original::{ref_spec, IntraRefSpec};
 use crate::random::Random;
 use crate::spec::{most, Spec, SIZES};
-use crate::timing::{best, over, print_ratios, print_times};
+use crate::timing::{best, lent, over, print_ratios, print_times};
 use crate::{calls, draw, refusals, rust};
 use std::hint::black_box;
 
@@ -51,7 +51,7 @@ fn two_ways(blocks: &[Block]) -> [f64; 2] {
             &mut |loops| over(blocks, loops, |k| _ = black_box(rust::build_refs(black_box(k.plane), black_box(&k.rust)))),
             &mut |loops| {
                 over(blocks, loops, |k| {
-                    let (above, left, corner) = black_box((&mut above, &mut left, &mut corner));
+                    let (above, left, corner) = (lent(&mut above), lent(&mut left), lent(&mut corner));
                     _ = black_box(calls::build_refs(black_box(k.plane), black_box(&k.spec), above, left, corner))
                 })
             },

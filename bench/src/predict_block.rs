@@ -6,7 +6,7 @@ use crate::colour::original::{ref_buf, MhccpRefBuf};
 use crate::colour::params::short_serves;
 use crate::colour::window::{luma_most, Window, DIRECTIONS};
 use crate::random::Random;
-use crate::timing::{best, over, print_ratios, print_sizes, print_times};
+use crate::timing::{best, lent, over, print_ratios, print_sizes, print_times};
 use crate::{calls, rust};
 use std::hint::black_box;
 
@@ -56,13 +56,13 @@ fn two_ways(inputs: &[Input]) -> [f64; 2] {
             &mut |loops| {
                 over(inputs, loops, |i| {
                     let i = black_box(i);
-                    rust::predict_block(&i.luma, &i.block, black_box(&mut first))
+                    rust::predict_block(&i.luma, &i.block, lent(&mut first))
                 })
             },
             &mut |loops| {
                 over(inputs, loops, |i| {
                     let i = black_box(i);
-                    _ = black_box(calls::predict_block(&i.block, &i.luma.data, black_box(&mut second)))
+                    _ = black_box(calls::predict_block(&i.block, &i.luma.data, lent(&mut second)))
                 })
             },
         ],

@@ -1,4 +1,5 @@
 // timing.rs: times several ways to do the same work, interleaved, and prints the best of many rounds.
+use std::hint::black_box;
 use std::time::Instant;
 
 const ROUNDS: usize = 400;
@@ -34,6 +35,13 @@ pub fn over<T>(inputs: &[T], loops: usize, mut work: impl FnMut(&T)) {
             work(input);
         }
     }
+}
+
+/// A list that the compiler knows nothing of. Only its owner's address is hidden: the two words of a slice, stored one by one and
+/// read back at once, would make the call wait.
+#[inline(always)]
+pub fn lent<T, L: AsMut<[T]>>(list: &mut L) -> &mut [T] {
+    black_box(list).as_mut()
 }
 
 /// The head of a table: its sizes.

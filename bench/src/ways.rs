@@ -1,5 +1,5 @@
 // ways.rs: the three ways to make a block: the Rust's function, the public call and our block function.
-use crate::timing::{best, over, print_ratios, print_times};
+use crate::timing::{best, lent, over, print_ratios, print_times};
 use std::hint::black_box;
 
 /// Sees that the three ways agree bit for bit, then times them.
@@ -23,9 +23,9 @@ pub fn three_ways<T>(
     best(
         set.len(),
         [
-            &mut |loops| over(set, loops, |e| rust(black_box(e), black_box(&mut first))),
-            &mut |loops| over(set, loops, |e| _ = black_box(public(black_box(e), black_box(&mut second)))),
-            &mut |loops| over(set, loops, |e| block(black_box(e), black_box(&mut third))),
+            &mut |loops| over(set, loops, |e| rust(black_box(e), lent(&mut first))),
+            &mut |loops| over(set, loops, |e| _ = black_box(public(black_box(e), lent(&mut second)))),
+            &mut |loops| over(set, loops, |e| block(black_box(e), lent(&mut third))),
         ],
     )
 }
