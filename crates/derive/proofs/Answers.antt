@@ -15,23 +15,22 @@ use Rattle.numbers.specs.declared.answer.Answer.the-variants.{Done, BadDepth}
 use Rattle.zint.proofs.Range.{and-both}
 use Rattle.ladder.specs.Ladder.{Rule, ladder}
 use Rattle.ladder.proofs.Ladder.{all-kept}
+use Rattle.terms.specs.Reference.{isReference}
+use Rattle.terms.proofs.Granted.{reference-all}
 use Rattle.fixed.specs.declared.elimination.Params.{Params}
 use Rattle.sums.specs.Sum.{Laid}
 use Rattle.sums.specs.declared.window.Window.{Window}
-use Rattle.derive.specs.Rules.{isReference, windowRules, sampleRules, deriveRules, deriveAnswer}
+use Rattle.derive.specs.Rules.{areReferences, windowRules, sampleRules, deriveRules, deriveAnswer}
 use Rattle.derive.specs.Derived.{zeros, windowParams, answered, sampled, derived, written}
 use Rattle.derive.proofs.Later.{later-refused, later-done}
 
-pub laid : (w : Window) (luma chroma : List ℤ) → isReference w (length luma) (length chroma) ≡ true → Laid w luma chroma
-unfolding isReference
+pub laid : (w : Window) (luma chroma : List ℤ) → areReferences w (length luma) (length chroma) ≡ true → Laid w luma chroma
+unfolding areReferences
 laid w luma chroma e =
-    let a = leb (w .«ref_width») 256 in
-    let b = leb (w .«ref_height») 256 in
-    let c = leb (w .«ref_height» * 256) (length luma) in
-    let p = and-both ((a && b) && c) (leb (w .«ref_height» * 256) (length chroma)) e in
-    let q = and-both (a && b) c (p .0) in
-    let r = and-both a b (q .0) in
-    record { wide = leb-true _ _ (r .0); high = leb-true _ _ (r .1); luma-long = leb-true _ _ (q .1); chroma-long = leb-true _ _ (p .1) }
+    let p = and-both (isReference (w .«ref_width») (w .«ref_height») (length luma)) (isReference (w .«ref_width») (w .«ref_height») (length chroma)) e in
+    let l = reference-all _ _ _ (p .0) in
+    let c = reference-all _ _ _ (p .1) in
+    record { wide = l .0; high = l .1; luma-long = l .2; chroma-long = c .2 }
 
 module _ (luma chroma : List ℤ) (w : Window) (direction D : ℕ) (room : Bool) where
   abbrev rules : List Rule

@@ -1,7 +1,7 @@
 -- "colour calls 2, 10, 11, 12, 9, 13, 14" (document 01, Refusal numbers): what `derive_params` tests, in that order.
 use mathlib.Core.Bool.{Bool, _&&_}
 use mathlib.Core.List.{List, [], _∷_, _++_}
-use Prim.Native.Nat.{ℕ, _*_}
+use Prim.Native.Nat.{ℕ}
 use lib.Dec.{leb}
 use lib.IntN.{ℤ}
 use lib.ListN.{length}
@@ -9,19 +9,14 @@ use Rattle.numbers.specs.Depth.{isDepth, most}
 use Rattle.numbers.specs.declared.answer.Answer.{Answer}
 use Rattle.numbers.specs.declared.answer.Answer.the-variants.{BadDepth, BadColourDirection, BadReference, BadLines, ShortList, BadColourSample, SumTooLarge}
 use Rattle.ladder.specs.Ladder.{Rule, _else_, ladder}
-use Rattle.terms.specs.Terms.{stride}
+use Rattle.terms.specs.Reference.{isReference, isLines}
 use Rattle.sums.specs.Sum.{sumsOf, isReadable}
 use Rattle.sums.specs.declared.nine.Nine.{Nine}
 use Rattle.sums.specs.declared.window.Window.{Window}
 
--- "ref_width or ref_height above 256, or luma (in derivation also chroma) shorter than ref_height x 256"
-unfoldable pub isReference : Window → ℕ → ℕ → Bool
-isReference w luma chroma =
-    leb (w .«ref_width») 256 && leb (w .«ref_height») 256 && leb (w .«ref_height» * stride) luma && leb (w .«ref_height» * stride) chroma
-
--- "above_lines or left_lines above 256"
-unfoldable pub isLines : Window → Bool
-isLines w = leb (w .«above_lines») 256 && leb (w .«left_lines») 256
+-- 11, of luma's list and chroma's, with so many entries
+unfoldable pub areReferences : Window → ℕ → ℕ → Bool
+areReferences w luma chroma = isReference (w .«ref_width») (w .«ref_height») luma && isReference (w .«ref_width») (w .«ref_height») chroma
 
 -- "one of the nine colour sums exceeds 2,147,483,647"
 unfoldable pub isSmall : Nine → Bool
@@ -34,8 +29,8 @@ isSmall s =
 abbrev pub windowRules : ℕ → ℕ → Window → ℕ → Bool → List Rule
 windowRules luma chroma w direction room =
     leb direction 2 else BadColourDirection ∷
-    isReference w luma chroma else BadReference ∷
-    isLines w else BadLines ∷
+    areReferences w luma chroma else BadReference ∷
+    isLines (w .«above_lines») (w .«left_lines») else BadLines ∷
     room else ShortList ∷ []
 
 -- 13 and 14

@@ -1,12 +1,13 @@
 -- What the rules 11 and 12 grant of a block. Assumes nothing.
 use mathlib.Core.Path.{_≡_, subst}
 use mathlib.Core.Bool.{Bool, true, not, _&&_, _||_}
-use Prim.Native.Nat.{ℕ, _+_, _*_, _≤_}
+use Prim.Native.Nat.{ℕ, _+_, _≤_}
 use lib.Dec.{leb}
 use borrow.Author.Tests.{leb-true}
 use Rattle.zint.proofs.Range.{and-both}
-use Rattle.terms.specs.Terms.{stride}
-use Rattle.predict.specs.Rules.{isReference, isLines, isSide, isPlaced, hasLine, hasNeighbours}
+use Rattle.terms.specs.Reference.{isReference, isLines}
+use Rattle.terms.proofs.Granted.{reference-all, lines-all}
+use Rattle.predict.specs.Rules.{isSide, isPlaced, hasLine, hasNeighbours}
 use Rattle.predict.specs.Placed.{Placed}
 use Rattle.predict.specs.declared.spec.Block.{Block}
 
@@ -14,19 +15,16 @@ pub side-all : (n : ℕ) → isSide n ≡ true → (1 ≤ n) × (n ≤ 128)
 unfolding isSide
 side-all n e = let p = and-both (leb 1 n) (leb n 128) e in (leb-true _ _ (p .0), leb-true _ _ (p .1))
 
-pub lines-all : (b : Block) → isLines b ≡ true → (b .«above_lines» ≤ 256) × (b .«left_lines» ≤ 256)
-unfolding isLines
-lines-all b e = let p = and-both (leb (b .«above_lines») 256) (leb (b .«left_lines») 256) e in (leb-true _ _ (p .0), leb-true _ _ (p .1))
-
 line-there : (there : Bool) (lines : ℕ) → hasLine there lines ≡ true → there ≡ true → 1 ≤ lines
 unfolding hasLine
 line-there there lines e t = leb-true 1 lines (subst (λ x. (not x || leb 1 lines) ≡ true) t e)
 
-pub placed : (b : Block) (n : ℕ) → isReference b n ≡ true → isLines b ≡ true → isPlaced b ≡ true → hasNeighbours b ≡ true → Placed b n
-unfolding isReference isPlaced hasNeighbours
+pub placed : (b : Block) (n : ℕ) → isReference (b .«ref_width») (b .«ref_height») n ≡ true → isLines (b .«above_lines») (b .«left_lines») ≡ true
+    → isPlaced b ≡ true → hasNeighbours b ≡ true → Placed b n
+unfolding isPlaced hasNeighbours
 placed b n reference lines place there =
-    let r = and-both (leb (b .«ref_width») 256 && leb (b .«ref_height») 256) (leb (b .«ref_height» * stride) n) reference in
-    let l = lines-all b lines in
+    let r = reference-all _ _ _ reference in
+    let l = lines-all _ _ lines in
     let p = and-both (isSide (b .width) && isSide (b .height) && leb (b .«left_lines» + b .width) 256) (leb (b .«above_lines» + b .height) (b .«ref_height»)) place in
     let q = and-both (isSide (b .width) && isSide (b .height)) (leb (b .«left_lines» + b .width) 256) (p .0) in
     let s = and-both (isSide (b .width)) (isSide (b .height)) (q .0) in
@@ -38,8 +36,8 @@ placed b n reference lines place there =
       high = side-all (b .height) (s .1);
       across = leb-true _ _ (q .1);
       down = leb-true _ _ (p .1);
-      lines = leb-true _ _ (and-both (leb (b .«ref_width») 256) (leb (b .«ref_height») 256) (r .0) .1);
-      long = leb-true _ _ (r .1);
+      lines = r .1;
+      long = r .2;
       top = line-there _ _ (t .0);
       side = line-there _ _ (t .1);
     }

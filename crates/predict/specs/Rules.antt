@@ -12,19 +12,11 @@ use Rattle.zint.specs.Range.{inside}
 use Rattle.ladder.specs.Ladder.{Rule, _else_, ladder}
 use Rattle.ladder.specs.Promise.{lent, Promise}
 use Rattle.line.specs.Every.{every}
-use Rattle.terms.specs.Terms.{stride}
+use Rattle.terms.specs.Reference.{isReference, isLines}
 use Rattle.sums.specs.declared.window.Window.{Window}
 use Rattle.predict.specs.Needed.{Place, valueAt, needed}
 use Rattle.predict.specs.Predicted.{predictedBlock}
 use Rattle.predict.specs.declared.spec.Block.{Block}
-
--- "ref_width or ref_height above 256, or luma .. shorter than ref_height x 256"
-unfoldable pub isReference : Block → ℕ → Bool
-isReference b n = leb (b .«ref_width») 256 && leb (b .«ref_height») 256 && leb (b .«ref_height» * stride) n
-
--- "above_lines or left_lines above 256"
-unfoldable pub isLines : Block → Bool
-isLines b = leb (b .«above_lines») 256 && leb (b .«left_lines») 256
 
 -- "width or height not in 1..128"
 unfoldable pub isSide : ℕ → Bool
@@ -57,8 +49,8 @@ abbrev pub predictRules : List ℤ → Block → ℕ → List Rule
 predictRules luma b n =
     isDepth (b .d) else BadDepth ∷
     leb (b .direction) 2 else BadColourDirection ∷
-    isReference b (length luma) else BadReference ∷
-    isLines b else BadLines ∷
+    isReference (b .«ref_width») (b .«ref_height») (length luma) else BadReference ∷
+    isLines (b .«above_lines») (b .«left_lines») else BadLines ∷
     isPlaced b else BadLines ∷
     hasNeighbours b else BadLines ∷
     leb (b .width * b .height) n else ShortList ∷

@@ -3,32 +3,11 @@ use crate::range;
 use crate::spec::Block;
 use numbers::answer::Answer;
 use numbers::depth::FoundDepth;
+use terms::reference;
 ghost use mathlib.Core.Path.{_≡_};
 ghost use mathlib.Core.Bool.{true};
-ghost use Rattle.predict.specs.Rules.{isReference, isLines, isSide, isPlaced, hasLine, hasNeighbours, predictAnswer};
-
-// 11: the reference list, of n entries.
-fn is_reference(b: Block, n: usize) -> bool
-    ensures { λ r. ⌜ r ≡ isReference b n ⌝ }
-{
-    if 256 < b.ref_width {
-        return false;
-    }
-    if 256 < b.ref_height {
-        return false;
-    }
-    b.ref_height * 256 <= n
-}
-
-// 12: the lines before the block.
-fn is_lines(b: Block) -> bool
-    ensures { λ r. ⌜ r ≡ isLines b ⌝ }
-{
-    if 256 < b.above_lines {
-        return false;
-    }
-    b.left_lines <= 256
-}
+ghost use Rattle.terms.specs.Reference.{isLines};
+ghost use Rattle.predict.specs.Rules.{isSide, isPlaced, hasLine, hasNeighbours, predictAnswer};
 
 // A side of the block.
 fn is_side(n: usize) -> bool
@@ -42,7 +21,7 @@ fn is_side(n: usize) -> bool
 
 // 12: the block's place.
 fn is_placed(b: Block) -> bool
-    requires { ⌜ isLines b ≡ true ⌝ }
+    requires { ⌜ isLines (b .«above_lines») (b .«left_lines») ≡ true ⌝ }
     ensures { λ r. ⌜ r ≡ isPlaced b ⌝ }
 {
     if !is_side(b.width) {
@@ -87,10 +66,10 @@ pub fn refused(luma: &[i32], b: Block, n: usize) -> Answer
     if 2 < b.direction {
         return Answer::BadColourDirection;
     }
-    if !is_reference(b, luma.len()) {
+    if !reference::is_reference(b.ref_width, b.ref_height, luma.len()) {
         return Answer::BadReference;
     }
-    if !is_lines(b) {
+    if !reference::is_lines(b.above_lines, b.left_lines) {
         return Answer::BadLines;
     }
     if !is_placed(b) {

@@ -1,2 +1,3 @@
--- The places of a reference list, and the terms of one sample.
+-- The places of a reference list, the terms of one sample, and the tests of a reference.
+pub mod Reference
 pub mod Terms

@@ -1,4 +1,6 @@
 // "Terms: the direction's luma >> 3, (c x c + 2^(D-1)) >> D, and 2^(D-1)." (document 01, Colour parameters): what derivation and prediction share.
+pub mod reference;
+
 use numbers::depth::Depth;
 use numbers::depth::FoundDepth;
 ghost use mathlib.Core.Path.{_≡_};

@@ -4,7 +4,8 @@ use borrow.Author.Tests.{not-true, not-false, le-leb, lt-leb}
 use mathlib.Core.Path.{_≡_, sym, _∙_}
 use mathlib.Core.Bool.{true}
 use lib.Dec.{leb}
-use Rattle.derive.specs.Rules.{isReference, isLines}
+use Rattle.terms.specs.Reference.{isLines}
+use Rattle.derive.specs.Rules.{areReferences}
 use Rattle.derive.proofs.rules.answer_of.Statement.{statement}
 use Rattle.derive.proofs.rules.answer_of.Tie as tie
 
@@ -16,10 +17,10 @@ module _ (c : tie.Else2) where
   abbrev s : tie.Start
   s = c .before .before .before
 
-  reference : isReference (s .args .w) (s .args .luma) (s .args .chroma) ≡ true
-  reference = sym (c .before .is-reference .ensures) ∙ not-false (c .before .is-reference .result) (c .if2 .left)
+  reference : areReferences (s .args .w) (s .args .luma) (s .args .chroma) ≡ true
+  reference = sym (c .before .are-references .ensures) ∙ not-false (c .before .are-references .result) (c .if2 .left)
 
-lines : (c : tie.Else3) → isLines (s (c .before .before) .args .w) ≡ true
+lines : (c : tie.Else3) → isLines (s (c .before .before) .args .w .«above_lines») (s (c .before .before) .args .w .«left_lines») ≡ true
 lines c = sym (c .before .is-lines .ensures) ∙ not-false (c .before .is-lines .result) (c .if3 .left)
 
 room : (c : tie.Else4) → s (c .before .before .before) .args .room ≡ true
@@ -28,14 +29,14 @@ room c = not-false (s (c .before .before .before) .args .room) (c .if4 .left)
 returns : tie.Need-returns
 returns c = simp (lt-leb _ _ (c .if1 .taken))
 
-is-reference-requires : tie.Need-is-reference-requires
-is-reference-requires c κs = search needs
+are-references-requires : tie.Need-are-references-requires
+are-references-requires c κs = search needs
 
 returns-2 : tie.Need-returns-2
 returns-2 c =
     simp (
       few (c .before .before),
-      sym (c .before .is-reference .ensures) ∙ not-true (c .before .is-reference .result) (c .if2 .taken),
+      sym (c .before .are-references .ensures) ∙ not-true (c .before .are-references .result) (c .if2 .taken),
     )
 
 is-lines-requires : tie.Need-is-lines-requires
@@ -67,7 +68,7 @@ answer-of-spec =
     tie.close
     (tie.spec
     returns
-    is-reference-requires
+    are-references-requires
     returns-2
     is-lines-requires
     returns-3

@@ -4,8 +4,9 @@ use borrow.Author.Tests.{le-leb, lt-leb, not-true, not-false}
 use mathlib.Core.Path.{_≡_, sym, _∙_}
 use mathlib.Core.Bool.{Bool, true, _&&_}
 use native.Mathlib.Omega.{arith}
+use Rattle.terms.proofs.Granted.{lines-all}
 use Rattle.predict.specs.Rules.{isSide, isPlaced}
-use Rattle.predict.proofs.Granted.{side-all, lines-all}
+use Rattle.predict.proofs.Granted.{side-all}
 use Rattle.predict.proofs.rules.is_placed.Statement.{statement}
 use Rattle.predict.proofs.rules.is_placed.Tie as tie
 
@@ -38,7 +39,7 @@ add-if3 : tie.Need-add-if3
 add-if3 c =
     let e = c .before in
     let s = e .before .before .before .before in
-    omega (arith, side-all _ (wide (e .before .before)), lines-all (s .args .b) (s .pre))
+    omega (arith, side-all _ (wide (e .before .before)), lines-all _ _ (s .pre))
 
 returns-3 : tie.Need-returns-3
 unfolding isPlaced
@@ -48,7 +49,7 @@ add-result : tie.Need-add-result
 add-result c =
     let e = c .before .before .before in
     let s = e .before .before .before .before in
-    omega (arith, side-all _ (high e), lines-all (s .args .b) (s .pre))
+    omega (arith, side-all _ (high e), lines-all _ _ (s .pre))
 
 returns-4 : tie.Need-returns-4
 unfolding isPlaced

@@ -14,8 +14,9 @@ use Rattle.numbers.specs.declared.answer.Answer.{Answer}
 use Rattle.numbers.proofs.Agree.{depth-yes, depth-back}
 use Rattle.zint.proofs.Bound.{back}
 use Rattle.ladder.specs.Ladder.{Rule, ladder}
+use Rattle.terms.specs.Reference.{isReference, isLines}
 use Rattle.predict.specs.Placed.{Placed}
-use Rattle.predict.specs.Rules.{isReference, isLines, isPlaced, hasNeighbours, predictRules, predictAnswer}
+use Rattle.predict.specs.Rules.{isPlaced, hasNeighbours, predictRules, predictAnswer}
 use Rattle.predict.proofs.Granted.{placed}
 use Rattle.predict.proofs.rules.refused.Tie as tie
 
@@ -63,7 +64,7 @@ module _ (c : tie.Else2) where
   abbrev pub t3 : tie.Start
   t3 = t1 (c1 c2)
 
-  reference : isReference (t3 .args .b) (length (t3 .args .luma .now)) ≡ true
+  reference : isReference (t3 .args .b .«ref_width») (t3 .args .b .«ref_height») (length (t3 .args .luma .now)) ≡ true
   reference = sym (c .before .is-reference .ensures) ∙ not-false (c .before .is-reference .result) (c .if2 .left)
 
   pub three : After t3 3
@@ -73,7 +74,7 @@ module _ (c : tie.Else3) where
   abbrev pub c3 : tie.Else2
   c3 = c .before .before
 
-  pub lines : isLines (t3 c3 .args .b) ≡ true
+  pub lines : isLines (t3 c3 .args .b .«above_lines») (t3 c3 .args .b .«left_lines») ≡ true
   lines = sym (c .before .is-lines .ensures) ∙ not-false (c .before .is-lines .result) (c .if3 .left)
 
   pub four : After (t3 c3) 4

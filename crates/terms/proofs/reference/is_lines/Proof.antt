@@ -1,8 +1,8 @@
 -- `is_lines` meets its contract. Assumes nothing.
 use borrow.Author.Tests.{le-leb, lt-leb}
-use Rattle.predict.specs.Rules.{isLines}
-use Rattle.predict.proofs.rules.is_lines.Statement.{statement}
-use Rattle.predict.proofs.rules.is_lines.Tie as tie
+use Rattle.terms.specs.Reference.{isLines}
+use Rattle.terms.proofs.reference.is_lines.Statement.{statement}
+use Rattle.terms.proofs.reference.is_lines.Tie as tie
 
 returns : tie.Need-returns
 unfolding isLines
@@ -10,7 +10,7 @@ returns c = simp (lt-leb _ _ (c .if1 .taken))
 
 returns-2 : tie.Need-returns-2
 unfolding isLines
-returns-2 c = simp (le-leb _ _ (c .before .if1 .left))
+returns-2 c = simp (le-leb _ _ (c .if1 .left))
 
 pub is-lines-spec : {M : Type 1} → statement M
 is-lines-spec = tie.close (tie.spec returns returns-2)
