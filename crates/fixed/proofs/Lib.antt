@@ -6,4 +6,7 @@ pub mod Bounds
 pub mod Short
 pub mod Reciprocal
 pub mod Calls
+pub mod Cleared
+pub mod Served
+pub mod Entries
 pub mod Read

@@ -49,6 +49,11 @@ pub near-is : (n k : ℕ) → 1 ≤ k → (n + 2 ^ (k - 1)) / 2 ^ k ≡ near n k
 near-is n zero h = absurd (omega arith)
 near-is n (suc k) h = let e : suc k - 1 ≡ k = omega arith in ap (λ (i : ℕ). (n + 2 ^ i) / 2 ^ suc k) e
 
+-- 0 is rounded to 0
+pub near-zero : (k : ℕ) → 1 ≤ k → near 0 k ≡ 0
+near-zero zero h = absurd (omega arith)
+near-zero (suc k) h = N.div-eq-of-lt (omega (arith, N.pow-succ' 2 k, N.one-le-pow k 2 (N.zero-lt-suc 1)))
+
 pub rounded-half : (p : ℤ) (M k : ℕ) → 1 ≤ k → natAbs p ≤ 2 * M → natAbs (rounded p k) ≤ M
 unfolding rounded
 rounded-half p M zero h l = absurd (omega arith)

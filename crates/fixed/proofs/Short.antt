@@ -18,7 +18,7 @@ use Rattle.zint.proofs.Bound.{abs-times}
 use Rattle.fixed.specs.Product.{ilog2, digits, over, narrow, signed, near, rounded, mulFixed, limitOf}
 use Rattle.zint.proofs.Naturals.{either, pow-le}
 use Rattle.fixed.proofs.Shift.{pow-below, ilog2-is, ilog2-zero}
-use Rattle.fixed.proofs.Rounding.{rounded-near}
+use Rattle.fixed.proofs.Rounding.{rounded-near, near-zero}
 use Rattle.fixed.proofs.Bounds.{digits-of}
 
 pub limit-few : (a : ℤ) → digits a ≤ 28 → limitOf a ≡ 2 ^ (29 - digits a)
@@ -30,21 +30,21 @@ unfolding limitOf
 limit-none a h = simp (lt-leb (digits a) 28 h)
 
 -- n < 2 ^ k has at most k digits, for 1 ≤ k
-digits-few : (n k : ℕ) → 1 ≤ k → n < 2 ^ k → n < 2 ^ 32 → digits (pos n) ≤ k
+pub digits-few : (n k : ℕ) → 1 ≤ k → n < 2 ^ k → n < 2 ^ 32 → digits (pos n) ≤ k
 unfolding digits
 digits-few n k h l m =
     ⊎-elim (λ (z : n ≡ 0). omega (arith, ap ilog2 z ∙ ilog2-zero))
     (λ (p : 0 < n). let g = ilog2-is n p m .0 .low in omega (arith, pow-below (ilog2 n) k (N.lt-of-le-of-lt g l))) (N.eq-zero-or-pos n)
 
 -- a factor in 0..4095 has at most 12 digits, so that at most 15 are over
+pub digits-twelve : (b : ℤ) → inside (pos 4095) b ≡ true → digits b ≤ 12
+digits-twelve b e =
+    let l = inside-abs 4095 b e in
+    subst (λ (z : ℤ). digits z ≤ 12) (sym (inside-pos 4095 b e)) (digits-few (natAbs b) 12 (omega arith) (omega arith) (omega arith))
+
 pub over-few : (a b : ℤ) → SFits w32 a → inside (pos 4095) b ≡ true → over a b ≤ 15
 unfolding over
-over-few a b f e =
-    let n = natAbs b in
-    let l : n ≤ 4095 = inside-abs 4095 b e in
-    let d : digits b ≤ 12 =
-    subst (λ (z : ℤ). digits z ≤ 12) (sym (inside-pos 4095 b e)) (digits-few n 12 (omega arith) (omega arith) (omega arith)) in
-    omega (arith, digits-of a f .all)
+over-few a b f e = omega (arith, digits-twelve b e, digits-of a f .all)
 
 shr-one : (z : ℤ) → shrZ z 1 ≡ z
 shr-one (pos n) = ap pos (N.div-one n)
@@ -59,9 +59,9 @@ signed-down : (x q : ℕ) → (x ≡ 0 → q ≡ 0) → signed (negℤ (pos x)) 
 signed-down zero q h = ap pos (h refl) ∙ ap (λ (i : ℕ). negℤ (pos i)) (sym (h refl))
 signed-down (suc x) q h = refl
 
-signed-mul : (a : ℤ) (n : ℕ) → signed (a *ℤ pos n) (near (natAbs a * n) 16) ≡ signed a (near (natAbs a * n) 16)
-signed-mul (pos m) n = refl
-signed-mul (negsuc m) n = signed-down (suc m * n) _ (λ z. omega arith)
+pub signed-mul : (a : ℤ) (n k : ℕ) → 1 ≤ k → signed (a *ℤ pos n) (near (natAbs a * n) k) ≡ signed a (near (natAbs a * n) k)
+signed-mul (pos m) n k h = refl
+signed-mul (negsuc m) n k h = signed-down (suc m * n) _ (λ z. ap (λ (x : ℕ). near x k) z ∙ near-zero k h)
 
 pub record Short (a : ℤ) (n : ℕ) : Type 0 where
   pub small : natAbs a * n ≤ 2 ^ 29
@@ -86,5 +86,5 @@ short a n f h = go (either (digits a) 28)
           is =
               sym (ap₂ (λ (p : ℤ) (i : ℕ). rounded p (16 - i)) (narrow-plain a (pos n) o) o
               ∙ rounded-near (a *ℤ pos n) 16 (omega arith) (omega arith)
-              ∙ ap (λ (m : ℕ). signed (a *ℤ pos n) (near m 16)) (abs-times a (pos n)) ∙ signed-mul a n);
+              ∙ ap (λ (m : ℕ). signed (a *ℤ pos n) (near m 16)) (abs-times a (pos n)) ∙ signed-mul a n 16 (omega arith));
         }

@@ -5,3 +5,4 @@ pub mod division;
 pub mod elimination;
 pub mod product;
 pub mod rows;
+pub mod wide;

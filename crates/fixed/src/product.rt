@@ -1,10 +1,8 @@
 // The product of two numbers with digits after the point, `mul_fixed32_adapt` of mhccp.rs (document 01, Colour parameters). Factors with more than 29
-// binary digits together are shifted first. `limit` tells where none is shifted, and `mul_wide` is the product by a small second factor.
+// binary digits together are shifted first. `limit` tells where none is shifted.
 ghost use mathlib.Core.Path.{_≡_};
 ghost use Prim.Native.Nat.{_≤_, _^_, _-_};
-ghost use mathlib.Core.Bool.{true};
-ghost use lib.IntN.{pos, natAbs};
-ghost use Rattle.zint.specs.Range.{inside};
+ghost use lib.IntN.{natAbs};
 ghost use Rattle.fixed.specs.Product.{ilog2, digits, rounded, mulFixed, limitOf};
 
 // |a|, also of i32::MIN.
@@ -56,7 +54,7 @@ fn rounded(p: i32, k: u32) -> i32
 }
 
 // a - b, and 0 where b is more.
-fn above(a: u32, b: u32) -> u32
+pub fn above(a: u32, b: u32) -> u32
     ensures { λ r. ⌜ r ≡ a - b ⌝ }
 {
     if a < b { 0 } else { a - b }
@@ -70,17 +68,6 @@ pub fn mul_fixed32_adapt(a: i32, b: i32, shift: u32) -> i32
     let s1 = need / 2;
     let s2 = need - s1;
     rounded((a >> s1) * (b >> s2), above(shift, need))
-}
-
-// The product at shift 16 by a b in 0..4095, where n is how many digits a has: at most 15 digits are over, so that one is left to round by.
-pub fn mul_wide(a: i32, n: u32, b: i32) -> i32
-    requires { ⌜ (n ≡ digits a) × (inside (pos 4095) b ≡ true) ⌝ }
-    ensures { λ r. ⌜ r ≡ mulFixed a b 16 ⌝ }
-{
-    let need = above(n + ilog2(b as u32) + 1, 29);
-    let s1 = need / 2;
-    let s2 = need - s1;
-    away((a >> s1) * (b >> s2), 16 - need)
 }
 
 // A second factor below this, and not negative, leaves no digit over: `mul_fixed32_fits` of mhccp.rs.

@@ -3,7 +3,7 @@ use mathlib.Core.Path.{_≡_, sym, subst}
 use mathlib.Core.Bool.{true}
 use Prim.Native.Nat.{ℕ, _≤_, _^_}
 use native.Mathlib.Omega.{arith}
-use lib.IntN.{ℤ, pos, negsuc, natAbs}
+use lib.IntN.{ℤ, pos, natAbs}
 use mir.Syntax.{w32}
 use mir.Val.{SFits}
 use Rattle.numbers.specs.Depth.{most}
@@ -13,14 +13,11 @@ use Rattle.zint.proofs.Range.{inside-abs, inside-pos, inside-more}
 use Rattle.fixed.specs.Product.{mulFixed}
 use Rattle.fixed.proofs.Bounds.{mul-pos}
 use Rattle.fixed.proofs.Calls.{thru}
+use Rattle.fixed.proofs.Served.{half-small}
 use Rattle.terms.specs.Terms.{eighth, squared}
 use Rattle.terms.proofs.Most.{most-all, depth-some, eighth-in, squared-in}
-use Rattle.predict.specs.Mixed.{halfOf, Ready, Luma}
+use Rattle.predict.specs.Mixed.{Ready, Luma}
 use Rattle.predict.specs.declared.mix.Mix.{Mix}
-
-pub half-small : (a : ℤ) → natAbs (halfOf a) ≤ 32768
-half-small (pos n) = omega arith
-half-small (negsuc n) = omega arith
 
 module _ (k : Mix) (r : Ready k) where
   within : (z : ℤ) (n : ℕ) → n ≤ 2 ^ 29 → (d : ℤ) → z ≡ d → natAbs d ≤ n → thru z ≡ z

@@ -1,31 +1,20 @@
 -- Laws of a predicted sample: the short product is one shift, one clip is as good as two, and the sum of the terms fits. Assumes nothing.
 use mathlib.Core.Path.{_≡_, refl, sym, _∙_, ap}
 use mathlib.Core.Bool.{Bool, true, false, cond}
-use Prim.Native.Nat.{ℕ, suc, _+_, _*_, _/_, _≤_, _<_}
+use Prim.Native.Nat.{ℕ, _+_, _*_, _≤_, _<_}
 use native.Mathlib.Omega.{arith}
-use lib.IntN.{ℤ, pos, negsuc, negℤ, natAbs, _+ℤ_, _*ℤ_}
+use lib.IntN.{ℤ, pos, negℤ, _+ℤ_, _*ℤ_}
 use lib.Signed.{shrZ, ltZ}
 use mir.Syntax.{w32}
 use mir.Val.{SFits}
 use Rattle.numbers.specs.Depth.{isDepth, most}
-use Rattle.zint.proofs.Parts.{same, neg, add, shr}
 use Rattle.zint.proofs.Order.{ltZ-true, ltZ-false, lt-ltZ, le-ltZ}
-use Rattle.fixed.specs.Product.{signed, near, mulFixed, limitOf}
+use Rattle.fixed.specs.Product.{mulFixed, limitOf}
+use Rattle.fixed.specs.Wide.{halfOf}
 use Rattle.fixed.proofs.Short.{short}
+use Rattle.fixed.proofs.Cleared.{shift-round}
 use Rattle.terms.proofs.Most.{most-all}
 use Rattle.predict.specs.Predicted.{clip, clipped}
-use Rattle.predict.specs.Mixed.{halfOf}
-
--- rounding halves away from 0, as a shift that rounds down
-round-down : (x : ℕ) → negℤ (pos ((x + 32768) / 65536)) ≡ shrZ (negℤ (pos x) +ℤ pos 32767) 65536
-round-down x =
-    let z = negℤ (pos x) +ℤ pos 32767 in
-    let q = (x + 32768) / 65536 in
-    same _ _ (omega (arith, neg (pos q), neg (pos x), add (negℤ (pos x)) (pos 32767), shr z 65536 (omega arith)))
-
-shift-round : (a : ℤ) (n : ℕ) → signed a (near (natAbs a * n) 16) ≡ shrZ (a *ℤ pos n +ℤ halfOf a) 65536
-shift-round (pos m) n = refl
-shift-round (negsuc m) n = round-down (suc m * n)
 
 -- below the limit the product is that shift
 pub short-is : (a : ℤ) (n : ℕ) → SFits w32 a → n < limitOf a → shrZ (a *ℤ pos n +ℤ halfOf a) 65536 ≡ mulFixed a (pos n) 16

@@ -3,7 +3,7 @@
 use mathlib.Core.Path.{_≡_, refl, sym, ap, subst}
 use mathlib.Core.Bool.{Bool, true, false, cond}
 use mathlib.Core.List.{List}
-use Prim.Native.Nat.{ℕ, zero, suc, _+_, _-_, _*_, _≤_, _<_}
+use Prim.Native.Nat.{ℕ, zero, suc, _+_, _-_, _*_, _/_, _%_, _≤_, _<_}
 use native.Mathlib.Omega.{arith}
 use lib.Dec.{eqb, ltb}
 use lib.IntN.{ℤ, pos}
@@ -12,14 +12,17 @@ use borrow.Author.Tests.{le-ltb, ne-eqb, eqb-true}
 use Rattle.numbers.specs.Depth.{most}
 use Rattle.zint.specs.Range.{inside}
 use Rattle.zint.proofs.Range.{and-both}
+use Rattle.lists.specs.Fill.{filled}
+use Rattle.lists.specs.Block.{rows}
+use Rattle.lists.proofs.Fill.{filled-same}
 use Rattle.line.specs.Every.{every}
 use Rattle.line.proofs.Every.{every-at}
 use Rattle.terms.specs.Terms.{stride}
 use Rattle.predict.specs.Needed.{Place, valueAt, before, centreAt, aboveAt, besideAt, directionAt, needed}
 use Rattle.predict.specs.Rules.{allRead, isRead}
-use Rattle.predict.specs.Mixed.{Luma, MixOf, mixed}
-use Rattle.predict.specs.Predicted.{total, clipped, predictedAt}
-use Rattle.predict.specs.Lines.{at, startOf, leadOf, stepOf, tap, Line}
+use Rattle.predict.specs.Mixed.{Luma, MixOf}
+use Rattle.predict.specs.Predicted.{total, clipped, predictedAt, predictedBlock}
+use Rattle.predict.specs.Lines.{at, startOf, leadOf, stepOf, tap, Line, found}
 use Rattle.predict.specs.Placed.{Placed}
 use Rattle.predict.specs.declared.mix.Mix.{Mix}
 use Rattle.predict.specs.declared.spec.Block.{Block}
@@ -27,6 +30,11 @@ use Rattle.predict.specs.declared.spec.Block.{Block}
 -- a place as an entry of the list
 abbrev pub entryOf : Place → ℕ
 entryOf p = p .y * stride + p .x
+
+-- a row by equal numbers
+pub line-at : (k : Mix) (luma : List ℤ) (b : Block) (j s step lead m : ℕ) → s ≡ startOf b j → step ≡ stepOf b j → lead ≡ leadOf b → m ≡ b .width
+    → Line k luma (startOf b j) (stepOf b j) (leadOf b) (b .width) → Line k luma s step lead m
+line-at k luma b j s step lead m p q r t l = rw (p, q, r, t) l
 
 module _ (b : Block) (n : ℕ) (g : Placed b n) where
   abbrev top : ℕ
@@ -112,5 +120,11 @@ module _ (b : Block) (n : ℕ) (g : Placed b n) where
 
   -- what the code finds is the definition's sample
   pub found-is : (k : Mix) (luma : List ℤ) (p0 p1 p2 : ℤ) → MixOf (b .d) p0 p1 p2 k → (r c : ℕ)
-      → mixed k (at luma (tap (startOf b r) (stepOf b r) (leadOf b) c)) (at luma (startOf b r + c)) ≡ predictedAt luma b p0 p1 p2 r c
+      → found k luma b r c ≡ predictedAt luma b p0 p1 p2 r c
   found-is k luma p0 p1 p2 m r c = λ j. clipped (m .bits j) (total (m .bits j) (m .first j) (m .second j) (m .third j) (at luma (tap-is c r j)) (at luma (centre-is c r j)))
+
+  -- and the code's rows are its block
+  pub block-is : (k : Mix) (luma : List ℤ) (p0 p1 p2 : ℤ) → MixOf (b .d) p0 p1 p2 k → (out : List ℤ)
+      → filled (b .height * b .width) (rows (b .width) (found k luma b)) out ≡ predictedBlock luma b p0 p1 p2 out
+  unfolding predictedBlock
+  block-is k luma p0 p1 p2 m out = filled-same (b .height * b .width) _ _ out (λ i l. found-is k luma p0 p1 p2 m (i / b .width) (i % b .width))

@@ -3,6 +3,7 @@ pub mod Needed
 pub mod Predicted
 pub mod Rules
 pub mod Mixed
+pub mod Wides
 pub mod Placed
 pub mod Lines
 pub mod Area

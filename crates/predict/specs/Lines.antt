@@ -6,7 +6,7 @@ use lib.Dec.{ltb, eqb}
 use lib.IntN.{ℤ, pos}
 use lib.ListN.{length, getD}
 use Rattle.terms.specs.Terms.{stride}
-use Rattle.predict.specs.Mixed.{Luma}
+use Rattle.predict.specs.Mixed.{Luma, mixed}
 use Rattle.predict.specs.declared.mix.Mix.{Mix}
 use Rattle.predict.specs.declared.spec.Block.{Block}
 
@@ -43,3 +43,7 @@ pub record Line (k : Mix) (luma : List ℤ) (s step lead n : ℕ) : Type 0 where
   pub long : s + n ≤ length luma
   pub near-in : (i : ℕ) → i < n → Luma k (at luma (tap s step lead i))
   pub centre-in : (i : ℕ) → i < n → Luma k (at luma (s + i))
+
+-- the sample at row r and column c, as the code finds it
+abbrev pub found : Mix → List ℤ → Block → ℕ → ℕ → ℤ
+found k luma b r c = mixed k (at luma (tap (startOf b r) (stepOf b r) (leadOf b) c)) (at luma (startOf b r + c))

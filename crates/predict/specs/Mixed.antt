@@ -2,18 +2,14 @@
 use Prim.Native.Nat.{ℕ, _+_, _*_, _^_, _≤_, _<_}
 use mathlib.Core.Path.{_≡_}
 use mathlib.Core.Bool.{true}
-use lib.IntN.{ℤ, pos, negsuc, natAbs}
+use lib.IntN.{ℤ, pos, natAbs}
 use Rattle.numbers.specs.Depth.{isDepth, most}
 use Rattle.zint.specs.Range.{inside}
-use Rattle.fixed.specs.Product.{digits, limitOf}
+use Rattle.fixed.specs.Product.{limitOf}
+use Rattle.fixed.specs.Wide.{halfOf}
 use Rattle.terms.specs.Terms.{middle}
 use Rattle.predict.specs.Predicted.{total, thirdOf, clipped}
 use Rattle.predict.specs.declared.mix.Mix.{Mix}
-
--- what is added to a product by a, so that a shift rounds it to the nearest, halves away from 0
-abbrev pub halfOf : ℤ → ℤ
-halfOf (pos n) = pos 32768
-halfOf (negsuc n) = pos 32767
 
 -- every second factor of the block is below the limits
 pub record Short (k : Mix) : Type 0 where
@@ -27,8 +23,6 @@ pub record Ready (k : Mix) : Type 0 where
   pub third : natAbs (k .third) ≤ 2 ^ 29
   pub half0 : k .half0 ≡ halfOf (k .p0)
   pub half1 : k .half1 ≡ halfOf (k .p1)
-  pub digits0 : k .digits0 ≡ digits (k .p0)
-  pub digits1 : k .digits1 ≡ digits (k .p1)
   pub short : k .short ≡ true → Short k
 
 -- it is made of these

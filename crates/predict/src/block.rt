@@ -2,14 +2,17 @@
 use crate::mix::Mix;
 use crate::row;
 use crate::spec::Block;
+use fixed::wide;
 ghost use mathlib.Core.Path.{_≡_};
 ghost use mathlib.Core.Bool.{true};
 ghost use Prim.Native.Nat.{_+_, _*_, _≤_};
 ghost use lib.ListN.{length};
 ghost use Rattle.numbers.specs.Depth.{isDepth};
-ghost use Rattle.lists.specs.Fill.{tab};
+ghost use Rattle.lists.specs.Fill.{tab, filled};
+ghost use Rattle.lists.specs.Block.{rows};
 ghost use Rattle.predict.specs.Mixed.{Ready, mixed};
-ghost use Rattle.predict.specs.Lines.{at, leadOf, stepOf, tap, Line};
+ghost use Rattle.predict.specs.Lines.{at, leadOf, stepOf, tap, Line, found};
+ghost use Rattle.predict.specs.Wides.{Wides};
 ghost use Rattle.predict.specs.Placed.{Placed};
 ghost use Rattle.predict.specs.Predicted.{predictedBlock};
 ghost use Rattle.predict.specs.Rules.{isRead};
@@ -38,29 +41,90 @@ fn step_of(b: Block, j: usize) -> usize
 }
 
 // A row in two parts: `lead` samples that take the centre, and the others.
-fn led_line(luma: &[i32], s: usize, step: usize, lead: usize, k: Mix, row: &mut [i32])
-    requires { ⌜ Ready k × Line k (now luma) s step lead (length (now row)) ⌝ }
+fn led_line(
+    luma: &[i32],
+    s: usize,
+    step: usize,
+    lead: usize,
+    k: Mix,
+    t0: &[i64],
+    t1: &[i64],
+    row: &mut [i32],
+)
+    requires { ⌜ Ready k × Wides k (now t0) (now t1) × Line k (now luma) s step lead (length (now row)) ⌝ }
     ensures { λ _. ⌜ now (row .exit) ≡ tab (length (now (row .entry))) (λ i. mixed k (at (now (luma .entry)) (tap s step lead i)) (at (now (luma .entry)) (s + i))) ⌝ }
 {
     let n = row.len();
     let o = 0;
-    row::row(&luma[s..], &luma[s..], k, &mut row[o..lead]);
+    row::row(&luma[s..], &luma[s..], k, t0, t1, &mut row[o..lead]);
     let from = s + lead;
     let near = from - step;
-    row::row(&luma[near..], &luma[from..], k, &mut row[lead..n]);
+    row::row(&luma[near..], &luma[from..], k, t0, t1, &mut row[lead..n]);
 }
 
 // One row, which starts at s of luma.
-fn line(luma: &[i32], s: usize, step: usize, lead: usize, k: Mix, row: &mut [i32])
-    requires { ⌜ Ready k × Line k (now luma) s step lead (length (now row)) ⌝ }
+fn line(
+    luma: &[i32],
+    s: usize,
+    step: usize,
+    lead: usize,
+    k: Mix,
+    t0: &[i64],
+    t1: &[i64],
+    row: &mut [i32],
+)
+    requires { ⌜ Ready k × Wides k (now t0) (now t1) × Line k (now luma) s step lead (length (now row)) ⌝ }
     ensures { λ _. ⌜ now (row .exit) ≡ tab (length (now (row .entry))) (λ i. mixed k (at (now (luma .entry)) (tap s step lead i)) (at (now (luma .entry)) (s + i))) ⌝ }
 {
     if lead == 0 {
         let near = s - step;
-        row::row(&luma[near..], &luma[s..], k, row);
+        row::row(&luma[near..], &luma[s..], k, t0, t1, row);
     } else {
-        led_line(luma, s, step, lead, k, row);
+        led_line(luma, s, step, lead, k, t0, t1, row);
     }
+}
+
+// The block's rows, in out[..width * height]; t0 and t1 are its parameters' tables.
+fn lines(luma: &[i32], b: Block, k: Mix, t0: &[i64], t1: &[i64], out: &mut [i32])
+    requires { ⌜ Placed b (length (now luma)) × (isRead (now luma) b ≡ true) × (b .width * b .height ≤ length (now out)) ⌝ }
+    requires { ⌜ Ready k × (k .bits ≡ b .d) × Wides k (now t0) (now t1) ⌝ }
+    ensures { λ _. ⌜ now (out .exit) ≡ filled (b .height * b .width) (rows (b .width) (found k (now (luma .entry)) b)) (now (out .entry)) ⌝ }
+{
+    let width = b.width;
+    let height = b.height;
+    let lead = lead_of(b);
+    let mut s = b.above_lines * 256 + b.left_lines;
+    let mut o = 0;
+    let mut j = 0;
+    while j < height {
+        let e = o + width;
+        line(luma, s, step_of(b, j), lead, k, t0, t1, &mut out[o..e]);
+        s += 256;
+        o = e;
+        j += 1;
+    }
+}
+
+// The same with tables, which are worked out first, in the room that t0 and t1 lend.
+fn wide_lines(luma: &[i32], b: Block, k: Mix, t0: &mut [i64], t1: &mut [i64], out: &mut [i32])
+    requires { ⌜ Placed b (length (now luma)) × (isRead (now luma) b ≡ true) × (b .width * b .height ≤ length (now out)) ⌝ }
+    requires { ⌜ Ready k × (k .bits ≡ b .d) × (length (now t0) ≡ 24) × (length (now t1) ≡ 24) ⌝ }
+    ensures { λ _. ⌜ now (out .exit) ≡ filled (b .height * b .width) (rows (b .width) (found k (now (luma .entry)) b)) (now (out .entry)) ⌝ }
+{
+    wide::fill(k.p0, t0);
+    wide::fill(k.p1, t1);
+    lines(luma, b, k, t0, t1, out);
+}
+
+// The same, with room for the tables.
+fn tabled(luma: &[i32], b: Block, k: Mix, out: &mut [i32])
+    requires { ⌜ Placed b (length (now luma)) × (isRead (now luma) b ≡ true) × (b .width * b .height ≤ length (now out)) ⌝ }
+    requires { ⌜ Ready k × (k .bits ≡ b .d) ⌝ }
+    ensures { λ _. ⌜ now (out .exit) ≡ filled (b .height * b .width) (rows (b .width) (found k (now (luma .entry)) b)) (now (out .entry)) ⌝ }
+{
+    let mut t0 = [0i64; 24];
+    let mut t1 = [0i64; 24];
+    wide_lines(luma, b, k, &mut t0, &mut t1, out);
 }
 
 // The block, in out[..width * height].
@@ -70,17 +134,10 @@ pub fn predict_into(luma: &[i32], b: Block, p0: i32, p1: i32, p2: i32, out: &mut
     ensures { λ _. ⌜ now (out .exit) ≡ predictedBlock (now (luma .entry)) b p0 p1 p2 (now (out .entry)) ⌝ }
 {
     let k = Mix::of(b.d, p0, p1, p2);
-    let width = b.width;
-    let height = b.height;
-    let lead = lead_of(b);
-    let mut s = b.above_lines * 256 + b.left_lines;
-    let mut o = 0;
-    let mut j = 0;
-    while j < height {
-        let e = o + width;
-        line(luma, s, step_of(b, j), lead, k, &mut out[o..e]);
-        s += 256;
-        o = e;
-        j += 1;
+    if k.short {
+        let none = [0i64; 1];
+        lines(luma, b, k, &none, &none, out);
+    } else {
+        tabled(luma, b, k, out);
     }
 }

@@ -1,15 +1,16 @@
 // What is worked out once for a block: its depth's numbers, the parameters, and which product serves (document 01, Colour parameters).
 use fixed::product;
+use fixed::wide;
 use numbers::depth::FoundDepth;
 ghost use mathlib.Core.Path.{_≡_};
 ghost use mathlib.Core.Bool.{true, _&&_};
 ghost use lib.Dec.{ltb};
 ghost use lib.IntN.{pos};
 ghost use Rattle.numbers.specs.Depth.{isDepth, most};
-ghost use Rattle.predict.specs.Mixed.{halfOf, Ready, MixOf};
+ghost use Rattle.predict.specs.Mixed.{Ready, MixOf};
 
-// bits is D, mid 2^(D-1) and max M. third is what the third term gives. half0 and half1 round the products by p0 and p1, which have digits0 and digits1
-// binary digits. short says that every second factor of the block is below both limits, so that the short product serves.
+// bits is D, mid 2^(D-1) and max M. third is what the third term gives. half0 and half1 round the products by p0 and p1. short says that every
+// second factor of the block is below both limits, so that the short product serves.
 pub struct Mix {
     pub bits: u32,
     pub mid: i32,
@@ -19,8 +20,6 @@ pub struct Mix {
     pub third: i32,
     pub half0: i32,
     pub half1: i32,
-    pub digits0: u32,
-    pub digits1: u32,
     pub short: bool,
 }
 
@@ -33,13 +32,6 @@ fn max_of(d: u32) -> i32
         return 0;
     };
     depth.max()
-}
-
-// What rounds a product by a to the nearest, before a shift by 16.
-fn half(a: i32) -> i32
-    ensures { λ r. ⌜ r ≡ halfOf a ⌝ }
-{
-    if a < 0 { 32767 } else { 32768 }
 }
 
 // Whether m is below both limits.
@@ -67,10 +59,8 @@ impl Mix {
             p0: p0,
             p1: p1,
             third: third,
-            half0: half(p0),
-            half1: half(p1),
-            digits0: product::digits(p0),
-            digits1: product::digits(p1),
+            half0: wide::half(p0),
+            half1: wide::half(p1),
             short: is_below(m as u32, limit0, limit1),
         }
     }

@@ -5,6 +5,7 @@ ghost use mathlib.Core.Path.{_≡_};
 ghost use lib.ListN.{length};
 ghost use Rattle.lists.specs.Fill.{tab};
 ghost use Rattle.predict.specs.Mixed.{Ready, Short, mixed};
+ghost use Rattle.predict.specs.Wides.{Both, Wides};
 ghost use Rattle.predict.specs.Lines.{at, Runs};
 
 // A row of a block whose products are all short: no branch inside.
@@ -19,26 +20,26 @@ fn short_row(near: &[i32], centre: &[i32], k: Mix, row: &mut [i32])
     }
 }
 
-// A row of any block.
-fn any_row(near: &[i32], centre: &[i32], k: Mix, row: &mut [i32])
-    requires { ⌜ Ready k × Runs k (now near) (now centre) (length (now row)) ⌝ }
+// A row of any block, whose parameters' tables are t0 and t1: no branch inside.
+fn wide_row(near: &[i32], centre: &[i32], k: Mix, t0: &[i64], t1: &[i64], row: &mut [i32])
+    requires { ⌜ Ready k × Both k (now t0) (now t1) × Runs k (now near) (now centre) (length (now row)) ⌝ }
     ensures { λ _. ⌜ now (row .exit) ≡ tab (length (now (row .entry))) (λ i. mixed k (at (now (near .entry)) i) (at (now (centre .entry)) i)) ⌝ }
 {
     let mut i = 0;
     while i < row.len() {
-        row[i] = value::any_sample(near[i], centre[i], k);
+        row[i] = value::wide_sample(near[i], centre[i], k, t0, t1);
         i += 1;
     }
 }
 
 // The row, by the product that serves.
-pub fn row(near: &[i32], centre: &[i32], k: Mix, row: &mut [i32])
-    requires { ⌜ Ready k × Runs k (now near) (now centre) (length (now row)) ⌝ }
+pub fn row(near: &[i32], centre: &[i32], k: Mix, t0: &[i64], t1: &[i64], row: &mut [i32])
+    requires { ⌜ Ready k × Wides k (now t0) (now t1) × Runs k (now near) (now centre) (length (now row)) ⌝ }
     ensures { λ _. ⌜ now (row .exit) ≡ tab (length (now (row .entry))) (λ i. mixed k (at (now (near .entry)) i) (at (now (centre .entry)) i)) ⌝ }
 {
     if k.short {
         short_row(near, centre, k, row);
     } else {
-        any_row(near, centre, k, row);
+        wide_row(near, centre, k, t0, t1, row);
     }
 }

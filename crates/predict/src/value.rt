@@ -1,12 +1,14 @@
 // One sample: its three terms, and the clip to 0..M (document 01, Colour parameters).
 use crate::mix::Mix;
-use fixed::product;
+use fixed::wide;
 ghost use mathlib.Core.Path.{_≡_};
 ghost use Prim.Native.Nat.{_≤_, _<_, _^_};
 ghost use lib.IntN.{pos, natAbs, _+ℤ_};
 ghost use Rattle.fixed.specs.Product.{mulFixed, limitOf};
+ghost use Rattle.fixed.specs.Wide.{halfOf};
 ghost use Rattle.predict.specs.Predicted.{clip, clipped};
-ghost use Rattle.predict.specs.Mixed.{halfOf, Ready, Short, Luma, mixed};
+ghost use Rattle.predict.specs.Mixed.{Ready, Short, Luma, mixed};
+ghost use Rattle.predict.specs.Wides.{Both};
 
 // x clipped to 0..m.
 fn clip(x: i32, m: i32) -> i32
@@ -47,14 +49,14 @@ pub fn short_sample(n: i32, c: i32, k: Mix) -> i32
     sum(short(k.p0, e, k.half0), short(k.p1, s, k.half1), k)
 }
 
-// A sample of any block.
-pub fn any_sample(n: i32, c: i32, k: Mix) -> i32
-    requires { ⌜ Ready k × Luma k n × Luma k c ⌝ }
+// A sample of any block, whose parameters' tables are t0 and t1.
+pub fn wide_sample(n: i32, c: i32, k: Mix, t0: &[i64], t1: &[i64]) -> i32
+    requires { ⌜ Ready k × Both k (now t0) (now t1) × Luma k n × Luma k c ⌝ }
     ensures { λ r. ⌜ r ≡ mixed k n c ⌝ }
 {
     let e = terms::eighth(n);
     let s = terms::squared(terms::eighth(c), k.mid, k.bits);
-    let x = product::mul_wide(k.p0, k.digits0, e);
-    let y = product::mul_wide(k.p1, k.digits1, s);
+    let x = wide::mul_wide(k.p0, t0, e);
+    let y = wide::mul_wide(k.p1, t1, s);
     sum(x, y, k)
 }

@@ -45,7 +45,7 @@ part-row-end-3 : tie.Need-part-row-end-3
 part-row-end-3 c = search needs
 
 row-requires : tie.Need-row-requires
-row-requires c κs = let s = c .before .before .before in (s .pre .0, head-part _ _ _ _ _ _ (s .pre .1) (s .args .row .now) refl)
+row-requires c κs = let s = c .before .before .before in (s .pre .0, s .pre .1, head-part _ _ _ _ _ _ (s .pre .2) (s .args .row .now) refl)
 
 add-from : tie.Need-add-from
 add-from c = search needs
@@ -93,7 +93,7 @@ row-requires-2 : tie.Need-row-requires-2
 row-requires-2 c κs =
     let a = c .before .before .before in
     let s = a .before .before .before .before .before in
-    (s .pre .0, tail-part _ _ _ _ _ _ (s .pre .1) _ (a .row2 .given .1))
+    (s .pre .0, s .pre .1, tail-part _ _ _ _ _ _ (s .pre .2) _ (a .row2 .given .1))
 
 same-length : tie.Need-same-length
 same-length c = search needs
@@ -102,7 +102,7 @@ returns : tie.Need-returns
 returns c =
     let a = c .before .before .before .before .before in
     let s = a .before .before .before .before .before in
-    let l = s .pre .1 in
+    let l = s .pre .2 in
     let row = s .args .row .now in
     let lead = s .args .lead in
     let f = sampleAt (s .args .k) (s .args .luma .now) (s .args .s) (s .args .step) lead (length row) l in

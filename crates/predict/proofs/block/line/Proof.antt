@@ -38,7 +38,7 @@ row-requires : tie.Need-row-requires
 row-requires c κs =
     let t = c .before .before .before in
     let s = t .before in
-    (s .pre .0, all-runs _ _ _ _ _ _ (s .pre .1) (t .if1 .taken))
+    (s .pre .0, s .pre .1, all-runs _ _ _ _ _ _ (s .pre .2) (t .if1 .taken))
 
 led-line-requires : tie.Need-led-line-requires
 led-line-requires c κs = search needs
@@ -50,7 +50,7 @@ returns : tie.Need-returns
 returns c =
     let t = c .before .before .before .before .before in
     let s = t .before in
-    c .before .row .ensures ∙ tab-same (length (s .args .row .now)) _ _ (all-same _ _ _ _ _ _ (s .pre .1) (t .if1 .taken))
+    c .before .row .ensures ∙ tab-same (length (s .args .row .now)) _ _ (all-same _ _ _ _ _ _ (s .pre .2) (t .if1 .taken))
 
 same-length-2 : tie.Need-same-length-2
 same-length-2 c = search needs

@@ -4,10 +4,10 @@ use Rattle.predict.proofs.row.row.Statement.{statement}
 use Rattle.predict.proofs.row.row.Tie as tie
 
 short-row-requires : tie.Need-short-row-requires
-short-row-requires c κs = let s = c .before .before in (s .pre .0, s .pre .0 .short (c .before .if1 .taken), s .pre .1)
+short-row-requires c κs = let s = c .before .before in (s .pre .0, s .pre .0 .short (c .before .if1 .taken), s .pre .2)
 
-any-row-requires : tie.Need-any-row-requires
-any-row-requires c κs = search needs
+wide-row-requires : tie.Need-wide-row-requires
+wide-row-requires c κs = let s = c .before .before in (s .pre .0, s .pre .1 (c .before .if1 .left), s .pre .2)
 
 same-length : tie.Need-same-length
 same-length c = search needs
@@ -24,4 +24,4 @@ returns-2 c = search needs
 pub row-spec : {M : Type 1} → statement M
 row-spec =
     tie.close
-    (tie.spec short-row-requires any-row-requires same-length returns same-length-2 returns-2)
+    (tie.spec short-row-requires wide-row-requires same-length returns same-length-2 returns-2)

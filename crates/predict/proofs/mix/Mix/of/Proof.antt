@@ -68,15 +68,9 @@ half-requires c κs = search needs
 half-requires-2 : tie.Need-half-requires-2
 half-requires-2 c κs = search needs
 
-digits-requires : tie.Need-digits-requires
-digits-requires c κs = search needs
-
-digits-requires-2 : tie.Need-digits-requires-2
-digits-requires-2 c κs = search needs
-
 cast-is-below : tie.Need-cast-is-below
 cast-is-below c =
-    let m = c .before .before .before .before .before .before .before in
+    let m = c .before .before .before .before .before in
     simp (m= m) (tt, record { fits = omega (arith, most-all (D m) (s m .pre)) })
 
 is-below-requires : tie.Need-is-below-requires
@@ -107,9 +101,7 @@ below M l0 l1 x y p q h =
 
 returns : tie.Need-returns
 returns c =
-    let d1 = c .before in
-    let d0 = d1 .before in
-    let h1 = d0 .before in
+    let h1 = c .before in
     let h0 = h1 .before in
     let l1 = h0 .before in
     let l0 = l1 .before in
@@ -124,8 +116,6 @@ returns c =
         third = third-small t;
         half0 = back w32 {z = h0 .half .result} (sfits-of (h0 .half .ok)) ∙ h0 .half .ensures;
         half1 = back w32 {z = h1 .half2 .result} (sfits-of (h1 .half2 .ok)) ∙ h1 .half2 .ensures;
-        digits0 = d0 .digits .ensures .0;
-        digits1 = d1 .digits2 .ensures .0;
         short = λ y. record {
           first = below (most (D m)) _ _ _ _ (l0 .limit .ensures) (l1 .limit2 .ensures) (sym is ∙ y) .0;
           second = below (most (D m)) _ _ _ _ (l0 .limit .ensures) (l1 .limit2 .ensures) (sym is ∙ y) .1;
@@ -145,8 +135,6 @@ of-spec =
     limit-requires-2
     half-requires
     half-requires-2
-    digits-requires
-    digits-requires-2
     cast-is-below
     is-below-requires
     returns)

@@ -7,9 +7,9 @@ use lib.IntN.{ℤ, pos, negsuc}
 use lib.Signed.{ltZ}
 use mir.Facts.{toZ-ofZ}
 use Rattle.zint.proofs.Order.{ltZ-true}
-use Rattle.predict.specs.Mixed.{halfOf}
-use Rattle.predict.proofs.mix.half.Statement.{statement}
-use Rattle.predict.proofs.mix.half.Tie as tie
+use Rattle.fixed.specs.Wide.{halfOf}
+use Rattle.fixed.proofs.wide.half.Statement.{statement}
+use Rattle.fixed.proofs.wide.half.Tie as tie
 
 down : (a : ℤ) → ltZ a (pos 0) ≡ true → pos 32767 ≡ halfOf a
 down (pos n) e = absurd (omega (arith, ltZ-true (pos n) (pos 0) e))

@@ -1,4 +1,4 @@
--- `any_sample` meets its contract: its terms are in 0..M, and each product is the definition's. Assumes nothing.
+-- `wide_sample` meets its contract: its terms are in 0..M, and each product is the definition's. Assumes nothing.
 use borrow.Author.Needs.{needs, sfits-of}
 use mathlib.Core.Path.{_≡_, sym, _∙_, ap, subst}
 use Prim.Native.Nat.{_≤_, _^_}
@@ -13,8 +13,8 @@ use Rattle.terms.specs.Terms.{eighth, squared}
 use Rattle.terms.proofs.Most.{most-all}
 use Rattle.predict.specs.Predicted.{total, clipped}
 use Rattle.predict.proofs.Held.{mid=, eighth-twelve, eighth-small, eighth-pos, squared-twelve, squared-small, squared-pos, product-small}
-use Rattle.predict.proofs.value.any_sample.Statement.{statement}
-use Rattle.predict.proofs.value.any_sample.Tie as tie
+use Rattle.predict.proofs.value.wide_sample.Statement.{statement}
+use Rattle.predict.proofs.value.wide_sample.Tie as tie
 
 module _ (c : tie.After-eighth2) where
   abbrev s : tie.Start
@@ -45,7 +45,7 @@ squared-requires c κs =
     let s = s t in
     let k = s .args .k in
     simp (c= t, mid= k (s .pre .0))
-    (eighth-twelve k (s .pre .0) (s .args .c) (s .pre .2), s .pre .0 .mid, most-all (k .bits) (s .pre .0 .depth) .0)
+    (eighth-twelve k (s .pre .0) (s .args .c) (s .pre .3), s .pre .0 .mid, most-all (k .bits) (s .pre .0 .depth) .0)
 
 -- the parameters, as any 32-bit numbers
 module _ (c : tie.After-struct-told2) where
@@ -71,12 +71,12 @@ module _ (c : tie.After-struct-told3) where
 mul-wide-requires : tie.Need-mul-wide-requires
 mul-wide-requires c κs =
     let s = s0 c in
-    simp (p0= c, n= (t (c .before))) (s .pre .0 .digits0, eighth-twelve (s .args .k) (s .pre .0) (s .args .n) (s .pre .1))
+    simp (p0= c, n= (t (c .before))) (s .pre .1 .first, eighth-twelve (s .args .k) (s .pre .0) (s .args .n) (s .pre .2))
 
 mul-wide-requires-2 : tie.Need-mul-wide-requires-2
 mul-wide-requires-2 c κs =
     let s = s1 c in
-    simp (p1= c, s= (c .before .before .before)) (s .pre .0 .digits1, squared-twelve (s .args .k) (s .pre .0) (s .args .c) (s .pre .2))
+    simp (p1= c, s= (c .before .before .before)) (s .pre .1 .second, squared-twelve (s .args .k) (s .pre .0) (s .args .c) (s .pre .3))
 
 -- what the products gave
 module _ (c : tie.After-mul-wide2) where
@@ -104,14 +104,14 @@ module _ (c : tie.After-mul-wide2) where
   x-small : natAbs (thru (m .mul-wide .result)) ≤ 2 ^ 29
   x-small =
       let k = u .args .k in
-      let l = u .pre .1 in
+      let l = u .pre .2 in
       subst (λ z. natAbs z ≤ 2 ^ 29) (sym x=)
       (product-small k (u .pre .0) (k .p0) (eighth (u .args .n)) (p0-fits (m .before)) (eighth-small k (u .pre .0) (u .args .n) l) (eighth-pos k (u .pre .0) (u .args .n) l))
 
   y-small : natAbs (thru (c .mul-wide2 .result)) ≤ 2 ^ 29
   y-small =
       let k = u .args .k in
-      let l = u .pre .2 in
+      let l = u .pre .3 in
       subst (λ z. natAbs z ≤ 2 ^ 29) (sym y=)
       (product-small k (u .pre .0) (k .p1) (squared (k .bits) (eighth (u .args .c))) (p1-fits (c .before)) (squared-small k (u .pre .0) (u .args .c) l) (squared-pos k (u .pre .0) (u .args .c) l))
 
@@ -126,8 +126,8 @@ returns c =
     ∙ c .sum .ensures
     ∙ (λ j. clipped (u m .args .k .bits) (x= m j +ℤ y= m j +ℤ u m .args .k .third))
 
-pub any-sample-spec : {M : Type 1} → statement M
-any-sample-spec =
+pub wide-sample-spec : {M : Type 1} → statement M
+wide-sample-spec =
     tie.close
     (tie.spec
     eighth-requires
