@@ -1,42 +1,15 @@
--- `blur_part` meets its contract. The invariant: the first i entries are written. Assumes nothing.
-use Prim.Native.Nat.{ℕ, _≤_, _<_, _+_, _-_}
+-- `blur_part` meets its contract: each entry is five of the other list by the kernel. Assumes nothing.
 use native.Mathlib.Omega.{arith}
-use mathlib.Core.Path.{_≡_, refl, sym, _∙_}
-use mathlib.Core.List.{List}
-use lib.ListN.{length, getD, length-set}
-use lib.IntN.{ℤ, pos, natAbs}
-use mir.Syntax.{w32}
-use mir.Val.{toZ, ofZ}
+use mathlib.Core.Path.{refl, sym, _∙_}
+use lib.ListN.{length, length-set}
+use lib.IntN.{pos}
 use mir.Facts.{toZ-ofZ}
-use Rattle.lists.specs.Fill.{tab, filled}
-use Rattle.zint.proofs.Bound.{back-abs}
-use Rattle.zint.proofs.Range.{inside-abs}
+use Rattle.lists.specs.Fill.{tab}
 use Rattle.lists.proofs.Fill.{filled-none, filled-more, filled-all}
-use Rattle.filter.specs.Filter.{five}
+use Rattle.filter.proofs.part.blur_part.Proof.Entries.{row-of, Inv-loop, μ-loop, first-small, next-small, first-back, next-back}
 use Rattle.filter.proofs.part.blur_part.Statement.{statement}
 use Rattle.filter.proofs.part.blur_part.Tie as tie
-
-abbrev row-of : List ℤ → ℤ → ℤ → ℤ → ℤ → ℤ → ℕ → ℤ
-row-of pad k0 k1 k2 k3 k4 i = five k0 k1 k2 k3 k4 (λ k. getD pad k (pos 0)) i
-
-abbrev Inv-loop : tie.InvT-loop
-Inv-loop pad k0 k1 k2 k3 k4 to₀ i₀ to i =
-    (i ≤ length to₀) × (length to ≡ length to₀)
-    × (to ≡ filled i (row-of pad (toZ w32 k0) (toZ w32 k1) (toZ w32 k2) (toZ w32 k3) (toZ w32 k4)) to₀)
-
-abbrev μ-loop : tie.MeasureT-loop
-μ-loop pad k0 k1 k2 k3 k4 to₀ i₀ to i = length to₀ - i
-
--- the entries are samples
-module _ (c : tie.In-loop Inv-loop μ-loop) where
-  abbrev e : ℕ → ℤ
-  e k = getD (c .before .before .args .pad .now) k (pos 0)
-
-  small : (k : ℕ) → k < length (c .before .before .args .to .now) + 4 → natAbs (e k) ≤ 4095
-  small k h = inside-abs 4095 (e k) (c .before .before .pre .0 .1 k h)
-
-  e-back : (k : ℕ) → k < length (c .before .before .args .to .now) + 4 → toZ w32 (ofZ w32 (e k)) ≡ e k
-  e-back k h = back-abs w32 (e k) (omega (arith, small k h))
+mod Entries
 
 loop-holds : tie.Need-loop-holds Inv-loop μ-loop
 loop-holds c = (omega arith, refl, sym (filled-none _ _))
@@ -87,11 +60,10 @@ blur-requires : tie.Need-blur-requires Inv-loop μ-loop
 blur-requires c κs =
     let k = c .before .before .before .before .before in
     let s = k .before .before in
-    let i = k .before .loop .i in
-    let b : (t : ℕ) → t ≤ 4 → toZ w32 (ofZ w32 (e k (i + t))) ≡ e k (i + t) = λ t h. e-back k (i + t) (omega arith) in
-    let m : (t : ℕ) → t ≤ 4 → natAbs (e k (i + t)) ≤ 4095 = λ t h. small k (i + t) (omega arith) in
-    simp (toZ-ofZ, s .fits .k0, s .fits .k1, s .fits .k2, s .fits .k3, s .fits .k4, e-back k i (omega arith), b 1 (omega arith), b 2 (omega arith), b 3 (omega arith), b 4 (omega arith))
-    (s .pre .1, (small k i (omega arith), m 1 (omega arith), m 2 (omega arith), m 3 (omega arith), m 4 (omega arith)))
+    let b = next-back k in
+    let m = next-small k in
+    simp (toZ-ofZ, s .fits .k0, s .fits .k1, s .fits .k2, s .fits .k3, s .fits .k4, first-back k, b 1 (omega arith), b 2 (omega arith), b 3 (omega arith), b 4 (omega arith))
+    (s .pre .1, (first-small k, m 1 (omega arith), m 2 (omega arith), m 3 (omega arith), m 4 (omega arith)))
 
 mul-t30 : tie.Need-mul-t30 Inv-loop μ-loop
 mul-t30 c = omega arith
@@ -109,11 +81,10 @@ loop-again : tie.Need-loop-again Inv-loop μ-loop
 loop-again c =
     let i = c .before .before .before .before .before .before in
     let k = i .before in
-    let n = k .loop .i in
-    let b : (t : ℕ) → t ≤ 4 → toZ w32 (ofZ w32 (e i (n + t))) ≡ e i (n + t) = λ t h. e-back i (n + t) (omega arith) in
-    let v = rw (e-back i n (omega arith), b 1 (omega arith), b 2 (omega arith), b 3 (omega arith), b 4 (omega arith)) at (c .blur .ensures) in
+    let b = next-back i in
+    let v = rw (first-back i, b 1 (omega arith), b 2 (omega arith), b 3 (omega arith), b 4 (omega arith)) at (c .blur .ensures) in
     let stored = toZ-ofZ {z = c .blur .result} (record { sfits = c .blur .ok }) in
-    (omega arith, simp length-set (k .loop .inv .1), filled-more n _ _ _ _ (pos 0) (omega arith) (k .loop .inv .2) (stored ∙ v))
+    (omega arith, simp length-set (k .loop .inv .1), filled-more (k .loop .i) _ _ _ _ (pos 0) (omega arith) (k .loop .inv .2) (stored ∙ v))
 
 same-length : tie.Need-same-length Inv-loop μ-loop
 same-length c = c .before .loop .inv .1
