@@ -1,43 +1,20 @@
 -- `filter_edge` meets its contract: the corner, the places, the last of them. Assumes nothing.
 use borrow.Author.Needs.{needs}
 use native.Mathlib.Omega.{arith}
-use mathlib.Core.Path.{_≡_, sym, _∙_, ap}
-use mathlib.Core.Bool.{true}
+use mathlib.Core.Path.{sym, _∙_, ap}
 use mathlib.Core.List.{List}
-use Prim.Native.Nat.{ℕ, _+_, _-_, _≤_, min}
+use Prim.Native.Nat.{_+_, _-_, min}
 use lib.ListN.{getD, length-take, length-drop}
 use lib.IntN.{ℤ, pos}
 use mir.Syntax.{w32}
 use mir.Val.{toZ, ofZ}
-use Rattle.zint.specs.Range.{inside}
-use Rattle.zint.proofs.Bound.{back-abs}
-use Rattle.zint.proofs.Range.{inside-abs}
 use Rattle.lists.proofs.Fill.{filled-none, filled-at}
-use Rattle.filter.specs.Filter.{padded, filtered}
-use Rattle.filter.specs.Padded.{place}
-use Rattle.filter.proofs.Filtered.{filtered-corner, filtered-sample}
+use Rattle.filter.proofs.Filtered.{filtered-corner}
 use Rattle.filter.proofs.Parts.{filled-next}
+use Rattle.filter.proofs.edge.filter_edge.Proof.Samples.{e, corner-back, g, f, f-back}
 use Rattle.filter.proofs.edge.filter_edge.Statement.{statement}
 use Rattle.filter.proofs.edge.filter_edge.Tie as tie
-
-module _ (s : tie.Start) where
-  abbrev e : ℕ → ℤ
-  e = place (s .args .pad .now)
-
-  corner-back : toZ w32 (ofZ w32 (e 0)) ≡ e 0
-  corner-back = back-abs w32 (e 0) (omega (arith, inside-abs 4095 (e 0) (s .pre .6 .samples 4 (omega arith))))
-
-  abbrev g : ℕ → ℤ
-  g = filtered (s .args .s) (s .args .lim) (s .args .n) e
-
-  abbrev f : ℕ → ℤ
-  f = padded 4 (s .args .n) g
-
-  f-back : (j : ℕ) → toZ w32 (ofZ w32 (f j)) ≡ f j
-  f-back j =
-      let samples : (i : ℕ) → i ≤ s .args .n → inside (pos 4095) (e i) ≡ true = λ i h. s .pre .6 .samples (i + 4) (omega arith) in
-      let p = filtered-sample 4095 (s .args .n) (s .args .s) (s .args .lim) e (s .pre .1) samples (min (s .args .n) (j - 4)) (omega arith) in
-      back-abs w32 (f j) (omega (arith, inside-abs 4095 (f j) p))
+mod Samples
 
 add-past : tie.Need-add-past
 add-past c = search needs
