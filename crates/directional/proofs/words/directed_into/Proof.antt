@@ -1,68 +1,20 @@
 -- `directed_into` meets its contract: the words' direction, depth, flags and limits are the definition's. Assumes nothing.
 use native.Mathlib.Omega.{arith}
-use mathlib.Core.Path.{_≡_, sym, _∙_, ap}
-use mathlib.Core.Bool.{Bool, true}
-use Prim.Native.Nat.{ℕ, _≤_, _+_, _*_}
-use lib.IntN.{ℤ, pos, natAbs}
+use mathlib.Core.Path.{sym, _∙_}
 use mir.Facts.{toZ-ofZ}
-use borrow.Author.Needs.{needs, sfits-of}
-use mir.Syntax.{w32}
-use mir.Val.{toZ, ofZ}
+use borrow.Author.Needs.{needs}
 use Rattle.numbers.specs.Depth.{most}
-use Rattle.numbers.specs.Dir.{dirOf, deltaOf, isDir, isDelta}
-use Rattle.numbers.proofs.Agree.{dir-no, depth-back, depth-no}
+use Rattle.numbers.proofs.Agree.{dir-no, depth-no}
 use Rattle.numbers.proofs.Angle.{delta-small}
-use Rattle.zint.proofs.Bound.{back}
 use Rattle.zint.proofs.Range.{pos-inside}
 use Rattle.calls.proofs.Accepted.{depth-most}
 use Rattle.lists.specs.Block.{block}
 use Rattle.directional.specs.Directional.{directionalAt}
-use Rattle.directional.specs.Words.{angleFrom, limitOf}
-use Rattle.directional.proofs.Named.{fours, named-all, angle-from, angle-in, never, limit-most}
+use Rattle.directional.proofs.Named.{fours, named-all, never, limit-most}
+use Rattle.directional.proofs.words.directed_into.Proof.Found.{names, t, delta-is, angle-is, angle-ok, a, u, M-is}
 use Rattle.directional.proofs.words.directed_into.Statement.{statement}
 use Rattle.directional.proofs.words.directed_into.Tie as tie
-
--- the words, looked up
-module _ (v : tie.After-of3) where
-  abbrev o : tie.After-of2
-  o = v .before .before .before .before
-
-  abbrev s : tie.Start
-  s = o .before .before .before .before .before .before
-
-  names : (isDir (s .args .direction) ≡ true) × (isDelta (s .args .delta) ≡ true)
-  names = named-all (s .args .direction) (s .args .delta) (s .args .flags) (s .pre .0 .2)
-
-module _ (d : tie.After-delta) where
-  abbrev t : tie.Start
-  t = s (d .before)
-
-  delta-is : toZ w32 (ofZ w32 (d .delta .result)) ≡ deltaOf (t .args .delta)
-  delta-is = back w32 {z = d .delta .result} (sfits-of (d .delta .ok)) ∙ d .delta .ensures
-
-module _ (a : tie.After-turned) where
-  abbrev found : tie.After-dir
-  found = o (a .before .before) .before .before
-
-  angle-is : a .turned .result ≡ angleFrom (dirOf (t (a .before) .args .direction)) (t (a .before) .args .delta)
-  angle-is = angle-from _ _ _ (sym (found .before .before .of .ensures) ∙ found .dir .given .1) _ _ (delta-is (a .before)) (a .turned .ensures)
-
-  angle-ok : (36 ≤ angleFrom (dirOf (t (a .before) .args .direction)) (t (a .before) .args .delta)) × (angleFrom (dirOf (t (a .before) .args .direction)) (t (a .before) .args .delta) ≤ 212)
-  angle-ok = angle-in _ _ _ (sym (found .before .before .of .ensures) ∙ found .dir .given .1) (names (a .before .before) .1)
-
-module _ (x : tie.After-max) where
-  abbrev a : tie.After-turned
-  a = x .before .before .before
-
-  abbrev u : tie.Start
-  u = t (a .before)
-
-  M-is : toZ w32 (ofZ w32 (x .max .result)) ≡ pos (most (u .args .d))
-  M-is =
-      let k = a .before .before .before .before in
-      back w32 {z = x .max .result} (sfits-of (x .max .ok))
-      ∙ x .max .ensures
-      ∙ ap (λ n. pos (most n)) (depth-back _ _ (sym (k .before .before .of2 .ensures) ∙ k .depth .given .1))
+mod Found
 
 of-requires : tie.Need-of-requires
 of-requires c κs = search needs
