@@ -1,23 +1,29 @@
--- What is ready for a block fits, and its samples' terms are small. Assumes nothing.
-use mathlib.Core.Path.{_≡_, sym, subst}
+-- What is ready for a block fits, the terms of its samples are small, and what a call gave is read back from its bits. Assumes nothing.
+use mathlib.Core.Path.{_≡_, sym, _∙_, subst}
 use mathlib.Core.Bool.{true}
-use Prim.Native.Nat.{ℕ, _≤_, _^_}
+use Prim.Native.Nat.{ℕ, _≤_, _<_, _^_}
+use native.Mathlib.Nat.{lt-of-le-of-lt}
 use native.Mathlib.Omega.{arith}
 use lib.IntN.{ℤ, pos, natAbs}
+use lib.Signed.{mag}
 use mir.Syntax.{w32}
 use mir.Val.{SFits}
 use Rattle.numbers.specs.Depth.{most}
 use Rattle.zint.specs.Range.{inside}
-use Rattle.zint.proofs.Bound.{back-abs, sfits-abs}
+use Rattle.zint.proofs.Bound.{back, back-abs, sfits-abs}
 use Rattle.zint.proofs.Range.{inside-abs, inside-pos, inside-more}
-use Rattle.fixed.specs.Product.{mulFixed}
+use Rattle.fixed.specs.Product.{mulFixed, limitOf}
 use Rattle.fixed.proofs.Bounds.{mul-pos}
 use Rattle.fixed.proofs.Calls.{thru}
 use Rattle.fixed.proofs.Served.{half-small}
 use Rattle.terms.specs.Terms.{eighth, squared}
 use Rattle.terms.proofs.Most.{most-all, depth-some, eighth-in, squared-in}
-use Rattle.predict.specs.Mixed.{Ready, Luma}
+use Rattle.predict.specs.Mixed.{Ready, Short, Luma}
 use Rattle.predict.specs.declared.mix.Mix.{Mix}
+
+-- what a call gave, read back from its bits
+pub got : {r d e : ℤ} → mag r < 2 ^ 31 → r ≡ d → d ≡ e → thru r ≡ e
+got {r} ok p q = back w32 {z = r} (record { sfits = ok }) ∙ p ∙ q
 
 module _ (k : Mix) (r : Ready k) where
   within : (z : ℤ) (n : ℕ) → n ≤ 2 ^ 29 → (d : ℤ) → z ≡ d → natAbs d ≤ n → thru z ≡ z
@@ -48,7 +54,7 @@ module _ (k : Mix) (r : Ready k) where
     pub eighth-twelve : inside (pos 4095) (eighth v) ≡ true
     eighth-twelve = inside-more _ 4095 (most-all (k .bits) (r .depth) .1) (eighth v) eighth-inside
 
-    pub eighth-small : natAbs (eighth v) ≤ most (k .bits)
+    eighth-small : natAbs (eighth v) ≤ most (k .bits)
     eighth-small = inside-abs _ _ eighth-inside
 
     pub eighth-pos : eighth v ≡ pos (natAbs (eighth v))
@@ -61,11 +67,18 @@ module _ (k : Mix) (r : Ready k) where
     pub squared-twelve : inside (pos 4095) (squared (k .bits) (eighth v)) ≡ true
     squared-twelve = inside-more _ 4095 (most-all (k .bits) (r .depth) .1) (squared (k .bits) (eighth v)) squared-inside
 
-    pub squared-small : natAbs (squared (k .bits) (eighth v)) ≤ most (k .bits)
+    squared-small : natAbs (squared (k .bits) (eighth v)) ≤ most (k .bits)
     squared-small = inside-abs _ _ squared-inside
 
     pub squared-pos : squared (k .bits) (eighth v) ≡ pos (natAbs (squared (k .bits) (eighth v)))
     squared-pos = inside-pos _ _ squared-inside
+
+    -- what the short product asks
+    pub first-below : Short k → natAbs (eighth v) < limitOf (k .p0)
+    first-below h = lt-of-le-of-lt eighth-small (h .first)
+
+    pub second-below : Short k → natAbs (squared (k .bits) (eighth v)) < limitOf (k .p1)
+    second-below h = lt-of-le-of-lt squared-small (h .second)
 
   pub most-small : (z : ℤ) → natAbs z ≤ most (k .bits) → natAbs z ≤ 4095
   most-small z h = omega (arith, most-all (k .bits) (r .depth) .1)
@@ -74,5 +87,13 @@ module _ (k : Mix) (r : Ready k) where
   small-fits z h = sfits-abs w32 z (omega (arith, most-small z h))
 
   -- a product by a number in 0..M
-  pub product-small : (a b : ℤ) → SFits w32 a → natAbs b ≤ most (k .bits) → b ≡ pos (natAbs b) → natAbs (mulFixed a b 16) ≤ 2 ^ 29
+  product-small : (a b : ℤ) → SFits w32 a → natAbs b ≤ most (k .bits) → b ≡ pos (natAbs b) → natAbs (mulFixed a b 16) ≤ 2 ^ 29
   product-small a b f h e = mul-pos a b f (small-fits b h) (natAbs b) 16 e
+
+  -- what the first two terms give
+  module _ (a v : ℤ) (f : SFits w32 a) (l : Luma k v) where
+    pub first-small : natAbs (mulFixed a (eighth v) 16) ≤ 2 ^ 29
+    first-small = product-small a (eighth v) f (eighth-small v l) (eighth-pos v l)
+
+    pub second-small : natAbs (mulFixed a (squared (k .bits) (eighth v)) 16) ≤ 2 ^ 29
+    second-small = product-small a (squared (k .bits) (eighth v)) f (squared-small v l) (squared-pos v l)

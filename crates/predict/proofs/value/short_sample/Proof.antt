@@ -1,9 +1,8 @@
 -- `short_sample` meets its contract: its terms are in 0..M, and each product is the definition's. Assumes nothing.
 use borrow.Author.Needs.{needs, sfits-of}
-use mathlib.Core.Path.{_≡_, sym, _∙_, ap, subst}
-use Prim.Native.Nat.{ℕ, _≤_, _<_, _^_}
-use native.Mathlib.Omega.{arith}
-use lib.IntN.{ℤ, natAbs, _+ℤ_}
+use mathlib.Core.Path.{_≡_, ap}
+use Prim.Native.Nat.{_≤_, _^_}
+use lib.IntN.{natAbs, _+ℤ_}
 use mir.Syntax.{w32}
 use mir.Val.{SFits}
 use mir.Facts.{toZ-ofZ}
@@ -13,29 +12,26 @@ use Rattle.fixed.proofs.Calls.{thru}
 use Rattle.terms.specs.Terms.{eighth, squared}
 use Rattle.terms.proofs.Most.{most-all}
 use Rattle.predict.specs.Predicted.{total, clipped}
-use Rattle.predict.proofs.Held.{mid=, half0=, half1=, eighth-twelve, eighth-small, eighth-pos, squared-small, squared-pos, product-small}
+use Rattle.predict.proofs.Held.{got, mid=, half0=, half1=, eighth-twelve, eighth-pos, squared-pos, first-below, second-below, first-small, second-small}
 use Rattle.predict.proofs.value.short_sample.Statement.{statement}
 use Rattle.predict.proofs.value.short_sample.Tie as tie
-
-below : {a b l : ℕ} → b < l → a ≤ b → a < l
-below h k = omega arith
 
 module _ (c : tie.After-eighth2) where
   abbrev s : tie.Start
   s = c .before .before
 
   n= : thru (c .before .eighth .result) ≡ eighth (s .args .n)
-  n= = back w32 {z = c .before .eighth .result} (sfits-of (c .before .eighth .ok)) ∙ (simp (toZ-ofZ, s .fits .n) at (c .before .eighth .ensures))
+  n= = got (c .before .eighth .ok) (c .before .eighth .ensures) (ap eighth (toZ-ofZ (s .fits .n)))
 
   c= : thru (c .eighth2 .result) ≡ eighth (s .args .c)
-  c= = back w32 {z = c .eighth2 .result} (sfits-of (c .eighth2 .ok)) ∙ (simp (toZ-ofZ, s .fits .c) at (c .eighth2 .ensures))
+  c= = got (c .eighth2 .ok) (c .eighth2 .ensures) (ap eighth (toZ-ofZ (s .fits .c)))
 
 module _ (c : tie.After-squared) where
   abbrev t : tie.After-eighth2
   t = c .before .before
 
   s= : thru (c .squared .result) ≡ squared (s t .args .k .bits) (eighth (s t .args .c))
-  s= = back w32 {z = c .squared .result} (sfits-of (c .squared .ok)) ∙ c .squared .ensures ∙ ap (squared (s t .args .k .bits)) (c= t)
+  s= = got (c .squared .ok) (c .squared .ensures) (ap (squared (s t .args .k .bits)) (c= t))
 
 eighth-requires : tie.Need-eighth-requires
 eighth-requires c κs = search needs
@@ -77,18 +73,16 @@ short-requires c κs =
     let a = c .before in
     let s = s0 a in
     let k = s .args .k in
-    let n = s .args .n in
     simp (p0= a, half0= k (s .pre .0), n= (t (a .before)))
-    (eighth-pos k (s .pre .0) n (s .pre .2), below (s .pre .1 .first) (eighth-small k (s .pre .0) n (s .pre .2)), s .pre .0 .half0)
+    (eighth-pos k (s .pre .0) (s .args .n) (s .pre .2), first-below k (s .pre .0) (s .args .n) (s .pre .2) (s .pre .1), s .pre .0 .half0)
 
 short-requires-2 : tie.Need-short-requires-2
 short-requires-2 c κs =
     let a = c .before in
     let s = s1 a in
     let k = s .args .k in
-    let v = s .args .c in
     simp (p1= a, half1= k (s .pre .0), s= (a .before .before .before .before))
-    (squared-pos k (s .pre .0) v (s .pre .3), below (s .pre .1 .second) (squared-small k (s .pre .0) v (s .pre .3)), s .pre .0 .half1)
+    (squared-pos k (s .pre .0) (s .args .c) (s .pre .3), second-below k (s .pre .0) (s .args .c) (s .pre .3) (s .pre .1), s .pre .0 .half1)
 
 -- what the products gave
 module _ (c : tie.After-short2) where
@@ -102,30 +96,16 @@ module _ (c : tie.After-short2) where
   u = s (t q)
 
   x= : thru (m .short .result) ≡ mulFixed (u .args .k .p0) (eighth (u .args .n)) 16
-  x= =
-      back w32 {z = m .short .result} (sfits-of (m .short .ok))
-      ∙ m .short .ensures
-      ∙ (λ j. mulFixed (p0= (m .before .before) j) (n= (t q) j) 16)
+  x= = got (m .short .ok) (m .short .ensures) (λ j. mulFixed (p0= (m .before .before) j) (n= (t q) j) 16)
 
   y= : thru (c .short2 .result) ≡ mulFixed (u .args .k .p1) (squared (u .args .k .bits) (eighth (u .args .c))) 16
-  y= =
-      back w32 {z = c .short2 .result} (sfits-of (c .short2 .ok))
-      ∙ c .short2 .ensures
-      ∙ (λ j. mulFixed (p1= (c .before .before) j) (s= q j) 16)
+  y= = got (c .short2 .ok) (c .short2 .ensures) (λ j. mulFixed (p1= (c .before .before) j) (s= q j) 16)
 
   x-small : natAbs (thru (m .short .result)) ≤ 2 ^ 29
-  x-small =
-      let k = u .args .k in
-      let l = u .pre .2 in
-      subst (λ z. natAbs z ≤ 2 ^ 29) (sym x=)
-      (product-small k (u .pre .0) (k .p0) (eighth (u .args .n)) (p0-fits (m .before .before)) (eighth-small k (u .pre .0) (u .args .n) l) (eighth-pos k (u .pre .0) (u .args .n) l))
+  x-small = rw x= (first-small (u .args .k) (u .pre .0) _ _ (p0-fits (m .before .before)) (u .pre .2))
 
   y-small : natAbs (thru (c .short2 .result)) ≤ 2 ^ 29
-  y-small =
-      let k = u .args .k in
-      let l = u .pre .3 in
-      subst (λ z. natAbs z ≤ 2 ^ 29) (sym y=)
-      (product-small k (u .pre .0) (k .p1) (squared (k .bits) (eighth (u .args .c))) (p1-fits (c .before .before)) (squared-small k (u .pre .0) (u .args .c) l) (squared-pos k (u .pre .0) (u .args .c) l))
+  y-small = rw y= (second-small (u .args .k) (u .pre .0) _ _ (p1-fits (c .before .before)) (u .pre .3))
 
 sum-requires : tie.Need-sum-requires
 sum-requires c κs = (u c .pre .0, x-small c, y-small c)
@@ -134,9 +114,7 @@ returns : tie.Need-returns
 unfolding total
 returns c =
     let m = c .before in
-    back w32 {z = c .sum .result} (sfits-of (c .sum .ok))
-    ∙ c .sum .ensures
-    ∙ (λ j. clipped (u m .args .k .bits) (x= m j +ℤ y= m j +ℤ u m .args .k .third))
+    got (c .sum .ok) (c .sum .ensures) (λ j. clipped (u m .args .k .bits) (x= m j +ℤ y= m j +ℤ u m .args .k .third))
 
 pub short-sample-spec : {M : Type 1} → statement M
 short-sample-spec =

@@ -1,8 +1,8 @@
 -- `wide_sample` meets its contract: its terms are in 0..M, and each product is the definition's. Assumes nothing.
 use borrow.Author.Needs.{needs, sfits-of}
-use mathlib.Core.Path.{_≡_, sym, _∙_, ap, subst}
+use mathlib.Core.Path.{_≡_, ap}
 use Prim.Native.Nat.{_≤_, _^_}
-use lib.IntN.{ℤ, natAbs, _+ℤ_}
+use lib.IntN.{natAbs, _+ℤ_}
 use mir.Syntax.{w32}
 use mir.Val.{SFits}
 use mir.Facts.{toZ-ofZ}
@@ -12,7 +12,7 @@ use Rattle.fixed.proofs.Calls.{thru}
 use Rattle.terms.specs.Terms.{eighth, squared}
 use Rattle.terms.proofs.Most.{most-all}
 use Rattle.predict.specs.Predicted.{total, clipped}
-use Rattle.predict.proofs.Held.{mid=, eighth-twelve, eighth-small, eighth-pos, squared-twelve, squared-small, squared-pos, product-small}
+use Rattle.predict.proofs.Held.{got, mid=, eighth-twelve, squared-twelve, first-small, second-small}
 use Rattle.predict.proofs.value.wide_sample.Statement.{statement}
 use Rattle.predict.proofs.value.wide_sample.Tie as tie
 
@@ -21,17 +21,17 @@ module _ (c : tie.After-eighth2) where
   s = c .before .before
 
   n= : thru (c .before .eighth .result) ≡ eighth (s .args .n)
-  n= = back w32 {z = c .before .eighth .result} (sfits-of (c .before .eighth .ok)) ∙ (simp (toZ-ofZ, s .fits .n) at (c .before .eighth .ensures))
+  n= = got (c .before .eighth .ok) (c .before .eighth .ensures) (ap eighth (toZ-ofZ (s .fits .n)))
 
   c= : thru (c .eighth2 .result) ≡ eighth (s .args .c)
-  c= = back w32 {z = c .eighth2 .result} (sfits-of (c .eighth2 .ok)) ∙ (simp (toZ-ofZ, s .fits .c) at (c .eighth2 .ensures))
+  c= = got (c .eighth2 .ok) (c .eighth2 .ensures) (ap eighth (toZ-ofZ (s .fits .c)))
 
 module _ (c : tie.After-squared) where
   abbrev t : tie.After-eighth2
   t = c .before .before
 
   s= : thru (c .squared .result) ≡ squared (s t .args .k .bits) (eighth (s t .args .c))
-  s= = back w32 {z = c .squared .result} (sfits-of (c .squared .ok)) ∙ c .squared .ensures ∙ ap (squared (s t .args .k .bits)) (c= t)
+  s= = got (c .squared .ok) (c .squared .ensures) (ap (squared (s t .args .k .bits)) (c= t))
 
 eighth-requires : tie.Need-eighth-requires
 eighth-requires c κs = search needs
@@ -90,30 +90,16 @@ module _ (c : tie.After-mul-wide2) where
   u = s (t q)
 
   x= : thru (m .mul-wide .result) ≡ mulFixed (u .args .k .p0) (eighth (u .args .n)) 16
-  x= =
-      back w32 {z = m .mul-wide .result} (sfits-of (m .mul-wide .ok))
-      ∙ m .mul-wide .ensures
-      ∙ (λ j. mulFixed (p0= (m .before) j) (n= (t q) j) 16)
+  x= = got (m .mul-wide .ok) (m .mul-wide .ensures) (λ j. mulFixed (p0= (m .before) j) (n= (t q) j) 16)
 
   y= : thru (c .mul-wide2 .result) ≡ mulFixed (u .args .k .p1) (squared (u .args .k .bits) (eighth (u .args .c))) 16
-  y= =
-      back w32 {z = c .mul-wide2 .result} (sfits-of (c .mul-wide2 .ok))
-      ∙ c .mul-wide2 .ensures
-      ∙ (λ j. mulFixed (p1= (c .before) j) (s= q j) 16)
+  y= = got (c .mul-wide2 .ok) (c .mul-wide2 .ensures) (λ j. mulFixed (p1= (c .before) j) (s= q j) 16)
 
   x-small : natAbs (thru (m .mul-wide .result)) ≤ 2 ^ 29
-  x-small =
-      let k = u .args .k in
-      let l = u .pre .2 in
-      subst (λ z. natAbs z ≤ 2 ^ 29) (sym x=)
-      (product-small k (u .pre .0) (k .p0) (eighth (u .args .n)) (p0-fits (m .before)) (eighth-small k (u .pre .0) (u .args .n) l) (eighth-pos k (u .pre .0) (u .args .n) l))
+  x-small = rw x= (first-small (u .args .k) (u .pre .0) _ _ (p0-fits (m .before)) (u .pre .2))
 
   y-small : natAbs (thru (c .mul-wide2 .result)) ≤ 2 ^ 29
-  y-small =
-      let k = u .args .k in
-      let l = u .pre .3 in
-      subst (λ z. natAbs z ≤ 2 ^ 29) (sym y=)
-      (product-small k (u .pre .0) (k .p1) (squared (k .bits) (eighth (u .args .c))) (p1-fits (c .before)) (squared-small k (u .pre .0) (u .args .c) l) (squared-pos k (u .pre .0) (u .args .c) l))
+  y-small = rw y= (second-small (u .args .k) (u .pre .0) _ _ (p1-fits (c .before)) (u .pre .3))
 
 sum-requires : tie.Need-sum-requires
 sum-requires c κs = (u c .pre .0, x-small c, y-small c)
@@ -122,9 +108,7 @@ returns : tie.Need-returns
 unfolding total
 returns c =
     let m = c .before in
-    back w32 {z = c .sum .result} (sfits-of (c .sum .ok))
-    ∙ c .sum .ensures
-    ∙ (λ j. clipped (u m .args .k .bits) (x= m j +ℤ y= m j +ℤ u m .args .k .third))
+    got (c .sum .ok) (c .sum .ensures) (λ j. clipped (u m .args .k .bits) (x= m j +ℤ y= m j +ℤ u m .args .k .third))
 
 pub wide-sample-spec : {M : Type 1} → statement M
 wide-sample-spec =
