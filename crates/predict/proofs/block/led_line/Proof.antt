@@ -5,44 +5,10 @@ use native.Mathlib.Omega.{arith}
 use lib.ListN.{length}
 use Rattle.lists.proofs.Fill.{filled-none, filled-part, filled-all}
 use Rattle.predict.proofs.Along.{head-part, tail-part, sampleAt, head-same, tail-same}
+use Rattle.predict.proofs.block.led_line.Proof.Lent as lent
 use Rattle.predict.proofs.block.led_line.Statement.{statement}
 use Rattle.predict.proofs.block.led_line.Tie as tie
-
-mul-row : tie.Need-mul-row
-mul-row c = search needs
-
-sub-row : tie.Need-sub-row
-sub-row c = search needs
-
-part-row-start : tie.Need-part-row-start
-part-row-start c = search needs
-
-part-row-end : tie.Need-part-row-end
-part-row-end c = search needs
-
-mul-row-2 : tie.Need-mul-row-2
-mul-row-2 c = search needs
-
-sub-row-2 : tie.Need-sub-row-2
-sub-row-2 c = search needs
-
-part-row-start-2 : tie.Need-part-row-start-2
-part-row-start-2 c = search needs
-
-part-row-end-2 : tie.Need-part-row-end-2
-part-row-end-2 c = search needs
-
-mul-row-3 : tie.Need-mul-row-3
-mul-row-3 c = search needs
-
-sub-row-3 : tie.Need-sub-row-3
-sub-row-3 c = search needs
-
-part-row-start-3 : tie.Need-part-row-start-3
-part-row-start-3 c = search needs
-
-part-row-end-3 : tie.Need-part-row-end-3
-part-row-end-3 c = search needs
+mod Lent
 
 row-requires : tie.Need-row-requires
 row-requires c κs = let s = c .before .before .before in (s .pre .0, s .pre .1, head-part _ _ _ _ _ _ (s .pre .2) (s .args .row .now) refl)
@@ -52,42 +18,6 @@ add-from c = search needs
 
 sub-near : tie.Need-sub-near
 sub-near c = search needs
-
-mul-row-4 : tie.Need-mul-row-4
-mul-row-4 c = search needs
-
-sub-row-4 : tie.Need-sub-row-4
-sub-row-4 c = search needs
-
-part-row-start-4 : tie.Need-part-row-start-4
-part-row-start-4 c = search needs
-
-part-row-end-4 : tie.Need-part-row-end-4
-part-row-end-4 c = search needs
-
-mul-row-5 : tie.Need-mul-row-5
-mul-row-5 c = search needs
-
-sub-row-5 : tie.Need-sub-row-5
-sub-row-5 c = search needs
-
-part-row-start-5 : tie.Need-part-row-start-5
-part-row-start-5 c = search needs
-
-part-row-end-5 : tie.Need-part-row-end-5
-part-row-end-5 c = search needs
-
-mul-row-6 : tie.Need-mul-row-6
-mul-row-6 c = search needs
-
-sub-row-6 : tie.Need-sub-row-6
-sub-row-6 c = search needs
-
-part-row-start-6 : tie.Need-part-row-start-6
-part-row-start-6 c = search needs
-
-part-row-end-6 : tie.Need-part-row-end-6
-part-row-end-6 c = search needs
 
 row-requires-2 : tie.Need-row-requires-2
 row-requires-2 c κs =
@@ -114,33 +44,33 @@ pub led-line-spec : {M : Type 1} → statement M
 led-line-spec =
     tie.close
     (tie.spec
-    mul-row
-    sub-row
-    part-row-start
-    part-row-end
-    mul-row-2
-    sub-row-2
-    part-row-start-2
-    part-row-end-2
-    mul-row-3
-    sub-row-3
-    part-row-start-3
-    part-row-end-3
+    lent.mul-row
+    lent.sub-row
+    lent.part-row-start
+    lent.part-row-end
+    lent.mul-row-2
+    lent.sub-row-2
+    lent.part-row-start-2
+    lent.part-row-end-2
+    lent.mul-row-3
+    lent.sub-row-3
+    lent.part-row-start-3
+    lent.part-row-end-3
     row-requires
     add-from
     sub-near
-    mul-row-4
-    sub-row-4
-    part-row-start-4
-    part-row-end-4
-    mul-row-5
-    sub-row-5
-    part-row-start-5
-    part-row-end-5
-    mul-row-6
-    sub-row-6
-    part-row-start-6
-    part-row-end-6
+    lent.mul-row-4
+    lent.sub-row-4
+    lent.part-row-start-4
+    lent.part-row-end-4
+    lent.mul-row-5
+    lent.sub-row-5
+    lent.part-row-start-5
+    lent.part-row-end-5
+    lent.mul-row-6
+    lent.sub-row-6
+    lent.part-row-start-6
+    lent.part-row-end-6
     row-requires-2
     same-length
     returns)
