@@ -1,43 +1,16 @@
--- `smooth_rows` meets its contract. The invariant: the first r rows are written, and o is r bs. Assumes nothing.
-use Prim.Native.Nat.{ℕ, _≤_, _+_, _-_, _*_}
-use native.Mathlib.Nat.{mul-le-mul-right}
+-- `smooth_rows` meets its contract. Assumes nothing.
 use native.Mathlib.Omega.{arith}
-use mathlib.Core.Path.{_≡_, refl, sym, _∙_, ap}
-use mathlib.Core.List.{List}
-use lib.ListN.{length, getD}
-use lib.IntN.{ℤ, pos, natAbs}
-use lib.Ieee.{Float}
-use Rattle.lists.specs.Fill.{filled}
-use Rattle.lists.specs.Block.{rows, sample, block}
+use mathlib.Core.Path.{_≡_, refl, sym, _∙_}
+use lib.IntN.{pos}
+use Rattle.lists.specs.Block.{sample, block}
 use Rattle.lists.proofs.Fill.{filled-none}
 use Rattle.lists.proofs.Block.{filled-row, part-length}
-use Rattle.smooth.specs.Smooth.{entry}
-use Rattle.smooth.specs.Parts.{weighed, mean}
+use Rattle.smooth.specs.Parts.{mean}
 use Rattle.smooth.proofs.Steps.{parts-most, by-parts, entry-most, line-long, line-at, line-most}
+use Rattle.smooth.proofs.rows.smooth_rows.Proof.Steps.{down, at, Inv-loop, μ-loop, s, beside, room}
 use Rattle.smooth.proofs.rows.smooth_rows.Statement.{statement}
 use Rattle.smooth.proofs.rows.smooth_rows.Tie as tie
-
--- down, and across
-abbrev down : ℕ → List ℤ → ℕ → List ℕ → ℕ → ℕ → ℕ
-down bs above e weights r c = weighed bs e (natAbs (entry above c)) (bs - 1 - r) (getD weights r 0)
-
-abbrev at : ℕ → List ℤ → ℕ → List ℤ → ℕ → List ℕ → ℕ → ℕ → Float
-at bs above e left f weights r c = sample (pos (mean (down bs above e weights r c) (down bs left f weights c r)))
-
-abbrev Inv-loop : tie.InvT-loop
-Inv-loop bs k above e left f weights reach line₀ out₀ m o₀ r₀ line out o r =
-    (r ≤ bs) × (o ≡ r * bs) × (length line ≡ length line₀) × (length out ≡ length out₀) × (out ≡ filled o (rows bs (at bs above e left f weights)) out₀)
-
-abbrev μ-loop : tie.MeasureT-loop
-μ-loop bs k above e left f weights reach line₀ out₀ m o₀ r₀ line out o r = bs - r
-
-module _ (c : tie.In-loop Inv-loop μ-loop) where
-  abbrev s : tie.Start Inv-loop μ-loop
-  s = c .before .before .before .before .before
-
-  -- the row lies in the output
-  room : c .before .loop .o + s .args .bs ≤ length (c .before .loop .out)
-  room = omega (arith, mul-le-mul-right (s .args .bs) (c .loop-test .taken))
+mod Steps
 
 cast-m : tie.Need-cast-m Inv-loop μ-loop
 cast-m c = omega (arith, parts-most (c .before .before .before .pre .0 .1))
@@ -86,11 +59,10 @@ mean-row-requires c κs =
     let t = a .before .before in
     let p = s t .pre in
     let l = t .before .loop in
-    let u = natAbs (entry (s t .args .left .now) (l .r)) in
-    let long = line-long (p .0 .3) (p .1) u (l .line) (a .across .ensures) (omega arith) in
+    let long = line-long (p .0 .3) (p .1) (beside t) (l .line) (a .across .ensures) (omega arith) in
     simp (part-length (l .o) (s t .args .bs) (l .out) (room t)) (
       (p .0 .0, by-parts (p .0 .1) _ (omega arith), p .1 .parts (l .r) (omega arith)),
-      (omega arith, line-most (p .0 .3) (p .1) u (l .line) (a .across .ensures) (entry-most (s t .pre .0 .2) (l .r) (t .loop-test .taken))),
+      (omega arith, line-most (p .0 .3) (p .1) (beside t) (l .line) (a .across .ensures) (entry-most (p .0 .2) (l .r) (t .loop-test .taken))),
     )
 
 add-r : tie.Need-add-r Inv-loop μ-loop
@@ -105,17 +77,15 @@ loop-again c =
     let t = a .before .before in
     let p = s t .pre in
     let l = t .before .loop in
-    let g = s t .args in
-    let u = natAbs (entry (g .left .now) (l .r)) in (
+    let g = s t .args in (
       omega arith,
       omega arith,
-      line-long (p .0 .3) (p .1) u (l .line) (a .across .ensures) (omega arith) ∙ l .inv .2,
+      line-long (p .0 .3) (p .1) (beside t) (l .line) (a .across .ensures) (omega arith) ∙ l .inv .2,
       c .before .out .given .1 ∙ l .inv .3,
       filled-row (g .bs) (l .r) (l .o) (at (g .bs) (g .above .now) (g .e) (g .left .now) (g .f) (g .weights .now)) _ _ _ _
           (l .inv .1) (room t) (l .inv .4) (c .before .before .mean-row .ensures)
-          (λ j h.
-          let d = down (g .bs) (g .above .now) (g .e) (g .weights .now) (l .r) j in
-          λ x. sample (pos (mean d (line-at (p .0 .3) (p .1) u (l .line) (a .across .ensures) j h x)))),
+          (λ j h x.
+          sample (pos (mean (down (g .bs) (g .above .now) (g .e) (g .weights .now) (l .r) j) (line-at (p .0 .3) (p .1) (beside t) (l .line) (a .across .ensures) j h x)))),
     )
 
 same-length : tie.Need-same-length Inv-loop μ-loop
@@ -130,8 +100,7 @@ returns c =
     let l = c .before .loop in
     let B = c .before .before .before .before .before .args .bs in
     let r : l .r ≡ B = omega arith in
-    let o : l .o ≡ B * B = l .inv .1 ∙ ap (λ x. x * B) r in
-    l .inv .4 ∙ rw o
+    l .inv .4 ∙ rw (l .inv .1, r)
 
 pub smooth-rows-spec : {M : Type 1} → statement M
 smooth-rows-spec =
