@@ -1,13 +1,11 @@
 -- What the answer is, test by test, and what a window that passes them has. Assumes nothing.
 use mathlib.Core.Path.{_≡_, refl, sym, _∙_, ap}
-use mathlib.Core.Bool.{Bool, true, false, cond, _&&_}
+use mathlib.Core.Bool.{Bool, true, false, cond}
 use mathlib.Core.List.{List, [], _∷_}
-use Prim.Native.Nat.{ℕ, _*_, _≤_}
+use Prim.Native.Nat.{ℕ, _≤_}
 use native.Mathlib.Omega.{arith}
-use lib.Dec.{leb}
 use lib.IntN.{ℤ}
 use lib.ListN.{length, set}
-use borrow.Author.Tests.{leb-true}
 use Rattle.numbers.specs.Answer.{isDone}
 use Rattle.numbers.specs.Depth.{isDepth}
 use Rattle.numbers.specs.declared.answer.Answer.{Answer}

@@ -2,14 +2,14 @@
 -- Assumes nothing.
 use mathlib.Core.Path.{_≡_, sym, ap, _∙_}
 use mathlib.Core.Logic.{⊎-elim}
-use Prim.Native.Nat.{ℕ, suc, _+_, _-_, _*_, _/_, _^_, _≤_, _<_}
+use Prim.Native.Nat.{ℕ, suc, _+_, _-_, _/_, _^_, _≤_, _<_}
 use native.Mathlib.Omega.{arith}
 use native.Mathlib.Numerals.{add-one}
 use native.Mathlib.Nat as N
 use lib.IntN.{ℤ, pos, negsuc, negℤ, natAbs, _+ℤ_}
 use lib.Signed.{shrZ}
 use Rattle.zint.proofs.Parts.{same, add}
-use Rattle.fixed.specs.Product.{near, rounded}
+use Rattle.fixed.specs.Product.{rounded}
 use Rattle.zint.proofs.Naturals.{either}
 use Rattle.fixed.proofs.Rounding.{near-is, rounded-near}
 

@@ -1,6 +1,6 @@
 -- Powers of two, the highest set bit, and how large a shifted number is (document 01, Colour parameters). Assumes nothing.
 use mathlib.Core.Path.{_≡_, refl, sym, ap, ap₂, _∙_, subst}
-use mathlib.Core.Bool.{Bool, true, false}
+use mathlib.Core.Bool.{true, false}
 use mathlib.Core.Logic.{_⊎_, inl, inr, ⊎-elim}
 use Prim.Native.Nat.{ℕ, suc, _+_, _-_, _*_, _/_, _^_, _≤_, _<_}
 use native.Mathlib.Omega.{arith}
@@ -13,8 +13,8 @@ use lib.Signed.{shrZ, mag, mag-shr, ltZ, nonNeg}
 use native.Mathlib.Numerals.{add-one}
 use mir.Syntax.{w32}
 use mir.Val.{SFits, Fits}
-use lib.Dec.{T, leb}
-use borrow.Author.Tests.{ltb-true, leb-true, leb-false}
+use lib.Dec.{T}
+use borrow.Author.Tests.{ltb-true}
 use Rattle.zint.proofs.Parts.{same, add, sub, sfits}
 use Rattle.zint.proofs.Order.{ltZ-false}
 use Rattle.zint.proofs.Naturals.{either, pow-le}

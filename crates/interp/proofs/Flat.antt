@@ -1,12 +1,12 @@
 -- Where all entries that a sample reads are the same, the sample is that entry: the taps sum to 128, or to 32. Assumes nothing.
 use mathlib.Core.Bool.{Bool, true, false}
-use mathlib.Core.Path.{_≡_, refl, sym, _∙_, ap, subst}
+use mathlib.Core.Path.{_≡_, sym, _∙_, ap, subst}
 use Prim.Native.Nat.{ℕ, _≤_, _<_, _+_, _-_, _*_, _/_}
 use native.Mathlib.Omega.{arith}
 use lib.Dec.{T}
 use lib.IntN.{ℤ, pos, negsuc, _+ℤ_, _*ℤ_}
 use lib.Arith.{digits-div}
-use lib.Signed.{shrZ, ltZ}
+use lib.Signed.{shrZ}
 use borrow.Author.Tests.{leb-true, le-ltb}
 use Rattle.zint.specs.Range.{inside}
 use Rattle.zint.proofs.Parts.{up, dn, same, add, mul}

@@ -3,7 +3,7 @@ use crate::value;
 ghost use mathlib.Core.Path.{_≡_};
 ghost use mathlib.Core.Bool.{true};
 ghost use Prim.Native.Nat.{_≤_, _+_};
-ghost use lib.IntN.{pos, natAbs};
+ghost use lib.IntN.{pos};
 ghost use lib.ListN.{length, getD};
 ghost use Rattle.zint.specs.Range.{inside, Edge};
 ghost use Rattle.lists.specs.Fill.{tab};

@@ -1,6 +1,6 @@
 -- A promise leaves no choice, and a call that is refused, or done, is one of the two sides of `lent`. Assumes nothing.
-use mathlib.Core.Path.{_≡_, refl, sym, _∙_, ap}
-use mathlib.Core.Bool.{Bool, true, false, cond}
+use mathlib.Core.Path.{_≡_, sym, _∙_, ap}
+use mathlib.Core.Bool.{true, false, cond}
 use Prim.Native.Nat.{ℕ}
 use Rattle.numbers.specs.Answer.{answerNumber, isDone}
 use Rattle.numbers.specs.declared.answer.Answer.{Answer}

@@ -6,7 +6,7 @@ use lib.IntN.{ℤ}
 use Prim.Native.Nat.{ℕ}
 use native.Mathlib.Omega.{arith}
 use borrow.Author.Tests.{eqb-true}
-use Rattle.numbers.specs.Look.{Maybe, only, nothing}
+use Rattle.numbers.specs.Look.{only, nothing}
 use Rattle.numbers.specs.Flag.{flagBit, flags, flagOf}
 use Rattle.numbers.specs.declared.flag.Flag.{Flag}
 use Rattle.numbers.specs.declared.flag.Flag.the-variants.{Above, Left, Luma, EdgeFilter, SmoothNeighbour}

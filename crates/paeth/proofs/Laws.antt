@@ -8,7 +8,7 @@ use lib.Dec.{leb}
 use lib.IntN.{ℤ, pos, natAbs, _+ℤ_, _-ℤ_}
 use Rattle.zint.specs.Range.{inside}
 use Rattle.zint.proofs.Parts.{same, add, sub}
-use Rattle.paeth.specs.Paeth.{dist, nearest, paeth}
+use Rattle.paeth.specs.Paeth.{dist, paeth}
 
 one-of : (P : ℤ → Type 0) (l t k : ℤ) → P l → P t → P k → P (paeth l t k)
 unfolding paeth

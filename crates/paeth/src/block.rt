@@ -2,7 +2,7 @@
 use crate::row;
 ghost use mathlib.Core.Path.{_≡_};
 ghost use Prim.Native.Nat.{_*_, _≤_};
-ghost use lib.IntN.{pos, natAbs};
+ghost use lib.IntN.{natAbs};
 ghost use lib.ListN.{length};
 ghost use Rattle.zint.specs.Range.{Edge};
 ghost use Rattle.lists.specs.Block.{block};

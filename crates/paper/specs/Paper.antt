@@ -3,7 +3,7 @@ use mathlib.Core.Bool.{true, false}
 use mathlib.Core.List.{List, [], _∷_}
 use Prim.Native.Nat.{ℕ, _+_, _/_, _%_}
 use lib.IntN.{ℤ, pos, negℤ}
-use lib.Ieee.{Float, binary32, ofBits}
+use lib.Ieee.{binary32, ofBits}
 use Rattle.lists.specs.Fill.{tab}
 use Rattle.samples.specs.Sample.{reading}
 use Rattle.edges.specs.Behind.{aboveBehind, leftBehind, cornerBehind}

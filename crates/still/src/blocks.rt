@@ -3,7 +3,7 @@ use edges::spec::IntraRefSpec;
 use libc::STDOUT_FILENO;
 use numbers::answer::Answer;
 ghost use mathlib.Core.Path.{_≡_};
-ghost use Prim.Native.Nat.{_≤_, _<_};
+ghost use Prim.Native.Nat.{_<_};
 ghost use lib.ListN.{length};
 
 // A picture's sides, each at most 64.

@@ -6,7 +6,7 @@ use native.Mathlib.Nat.{lt-of-mul-lt-mul-right, div-add-mod', mod-lt, mul-add-di
 use native.Mathlib.Omega.{arith}
 use lib.Arith.{digits-div}
 use lib.Dec.{T, ltb, ltb→lt, nltb→le}
-use lib.IntN.{ℤ, pos, negsuc, negℤ, subℕ, _+ℤ_, _-ℤ_, _*ℤ_}
+use lib.IntN.{ℤ, pos, negsuc, negℤ, subℕ, _+ℤ_, _*ℤ_}
 use lib.Signed.{shrZ}
 
 unfoldable pub diff : ℕ → ℕ → ℤ

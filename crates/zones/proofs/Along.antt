@@ -1,13 +1,13 @@
 -- The zones' definitions over the code's lists: an edge with its ends repeated holds what a zone reads, also past its end. Assumes nothing.
 use mathlib.Core.Bool.{Bool, true, false, cond}
-use mathlib.Core.Path.{_≡_, refl, sym, _∙_, ap, ap₂}
+use mathlib.Core.Path.{_≡_, refl, sym, _∙_, ap}
 use mathlib.Core.List.{List}
-use Prim.Native.Nat.{ℕ, _+_, _-_, _*_, _/_, _≤_, _<_, min}
+use Prim.Native.Nat.{ℕ, _+_, _-_, _*_, _/_, _≤_, _<_}
 use native.Mathlib.Omega.{arith}
 use lib.Dec.{leb, ltb}
 use lib.IntN.{ℤ, pos, natAbs}
 use lib.ListN.{getD}
-use borrow.Author.Tests.{ltb-true, leb-true, leb-false}
+use borrow.Author.Tests.{ltb-true}
 use Rattle.zint.specs.Range.{inside}
 use Rattle.zint.proofs.Range.{inside-pos}
 use Rattle.interp.specs.Interp.{between}
@@ -16,7 +16,6 @@ use Rattle.interp.proofs.Flat.{between-flat}
 use Rattle.filter.specs.Filter.{padded}
 use Rattle.zones.specs.Zones.{along, zone2}
 use Rattle.zones.specs.Listed.{listed, either}
-use Rattle.zones.proofs.Inside.{left-inside}
 
 -- past the last place the interpolation gives its entry too
 pub along-is : (lum : Bool) (v n : ℕ) (e : ℕ → ℤ) (q : ℕ) → inside (pos v) (e n) ≡ true → along lum (pos v) n e q ≡ between lum (pos v) (padded 1 n e) q

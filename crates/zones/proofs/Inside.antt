@@ -6,7 +6,6 @@ use Prim.Native.Nat.{ℕ, _+_, _*_, _-_, _≤_, _<_}
 use native.Mathlib.Nat.{mul-le-mul-right, mul-le-mul-left}
 use native.Mathlib.Omega.{arith}
 use lib.Dec.{T, leb, leb→le}
-use lib.ListN.{getD}
 use borrow.Author.Tests.{le-leb}
 use Rattle.lists.proofs.Table.{both, both-left, both-right, at}
 use Rattle.zones.specs.Steps.{steps, step}

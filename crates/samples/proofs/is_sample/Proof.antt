@@ -1,8 +1,7 @@
 -- `is_sample` meets its contract: 0.0 is the zero of the definition, and m is an f32. Assumes nothing.
-use mathlib.Core.Path.{_≡_, refl, ap}
+use mathlib.Core.Path.{_≡_, refl}
 use mathlib.Core.Bool.{_&&_}
 use native.Mathlib.Omega.{arith}
-use lib.IntN.{ℤ}
 use lib.Ieee.{binary32, ofBits, le, ofInt}
 use mir.Syntax.{w32}
 use Rattle.zint.proofs.Bound.{back, exact}

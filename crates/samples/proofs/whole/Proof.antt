@@ -1,6 +1,6 @@
 -- `whole` meets its contract. Assumes nothing.
-use mathlib.Core.Path.{_≡_, sym, subst}
-use Prim.Native.Nat.{ℕ, _/_, _^_, _≤_}
+use mathlib.Core.Path.{sym, subst}
+use Prim.Native.Nat.{_/_, _^_, _≤_}
 use native.Mathlib.Omega.{arith}
 use lib.Dec.{T}
 use lib.Ieee.{binary32, fits, toBits}

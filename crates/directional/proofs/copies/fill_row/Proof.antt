@@ -1,13 +1,10 @@
 -- `fill_row` meets its contract. The invariant: the first c samples are written. Assumes nothing.
 use borrow.Author.Needs.{needs}
-use Prim.Native.Nat.{ℕ, _≤_, _-_}
+use Prim.Native.Nat.{_≤_, _-_}
 use native.Mathlib.Omega.{arith}
 use mathlib.Core.Path.{_≡_, refl, sym, _∙_, ap}
 use lib.ListN.{length, length-set}
-use lib.IntN.{ℤ}
-use lib.Ieee.{Float, nan}
-use mir.Syntax.{w32}
-use mir.Val.{toZ}
+use lib.Ieee.{nan}
 use mir.Facts.{toZ-ofZ}
 use Rattle.lists.specs.Fill.{tab, filled}
 use Rattle.lists.specs.Block.{sample}

@@ -1,6 +1,6 @@
 -- `to_sample` meets its contract: so small a number is exact in an f32. Assumes nothing.
 use native.Mathlib.Omega.{arith}
-use mathlib.Core.Path.{_≡_, ap}
+use mathlib.Core.Path.{ap}
 use mir.Syntax.{w32}
 use Rattle.lists.specs.Block.{sample}
 use Rattle.zint.proofs.Bound.{back-abs, exact}

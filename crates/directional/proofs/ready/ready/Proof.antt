@@ -1,7 +1,7 @@
 -- `ready` meets its contract: the strength is the definition's, and at most 3. Assumes nothing.
 use borrow.Author.Needs.{needs}
 use native.Mathlib.Omega.{arith}
-use mathlib.Core.Path.{_≡_, _∙_}
+use mathlib.Core.Path.{_∙_}
 use Prim.Native.Nat.{_≤_, _+_, _-_}
 use mir.Facts.{toZ-ofZ}
 use Rattle.lists.specs.Fill.{filled}

@@ -3,8 +3,8 @@ use borrow.Author.Needs.{needs}
 use native.Mathlib.Omega.{arith}
 use mathlib.Core.Path.{_≡_, _∙_, ap}
 use mathlib.Core.Bool.{true}
-use Prim.Native.Nat.{_≤_, _+_}
-use lib.IntN.{ℤ, pos, natAbs}
+use Prim.Native.Nat.{_+_}
+use lib.IntN.{ℤ, pos}
 use lib.ListN.{getD}
 use mir.Facts.{toZ-ofZ}
 use mir.Syntax.{w32}

@@ -1,10 +1,9 @@
 -- `z2_with` meets its contract: the two lists hold the edges that the definition reads. Assumes nothing.
 use borrow.Author.Needs.{needs}
-use Prim.Native.Nat.{ℕ, _≤_, _<_, _+_, _-_, _*_}
+use Prim.Native.Nat.{_-_}
 use native.Mathlib.Omega.{arith}
-use mathlib.Core.Path.{_≡_, _∙_}
+use mathlib.Core.Path.{_∙_}
 use mir.Facts.{toZ-ofZ}
-use Rattle.zones.specs.Steps.{step}
 use Rattle.zones.proofs.Inside.{step-most, steps-within}
 use Rattle.directional.proofs.TwoEdges.{holds-samples, by-strips}
 use Rattle.directional.proofs.zone2.z2_with.Statement.{statement}

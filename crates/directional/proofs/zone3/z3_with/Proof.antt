@@ -1,8 +1,8 @@
 -- `z3_with` meets its contract: the list holds the edge that the definition reads, as far as the last column goes. Assumes nothing.
 use borrow.Author.Needs.{needs}
-use Prim.Native.Nat.{_≤_, _+_, _-_, _*_}
+use Prim.Native.Nat.{_-_}
 use native.Mathlib.Omega.{arith}
-use mathlib.Core.Path.{_≡_, _∙_}
+use mathlib.Core.Path.{_∙_}
 use mir.Facts.{toZ-ofZ}
 use Rattle.directional.proofs.OneEdge.{OneEdge, samples, corner-in, step-few, reach, holds-samples, by-strips}
 use Rattle.directional.proofs.zone3.z3_with.Statement.{statement}

@@ -1,14 +1,13 @@
 -- `moved` meets its contract. Assumes nothing.
 use mathlib.Core.Path.{_≡_, sym, _∙_, ap, subst}
 use mathlib.Core.Logic.{⊎-elim}
-use Prim.Native.Nat.{ℕ, zero, suc, _<_, _≤_, _+_, _-_, _/_, _%_, _^_}
+use Prim.Native.Nat.{ℕ, suc, _<_, _≤_, _+_, _-_, _/_, _%_, _^_}
 use native.Mathlib.Omega.{arith}
 use native.Mathlib.Nat as N
 use lib.Pow.{shl-exact}
 use borrow.Author.Needs.{needs}
 use borrow.Author.Tests.{lt-ltb, le-ltb}
 use Rattle.fixed.specs.Division.{dropped, moved}
-use Rattle.zint.proofs.Naturals.{pow-le}
 use Rattle.fixed.proofs.Shift.{ilog2-is, ilog2-le}
 use Rattle.fixed.proofs.Rounding.{one-shl}
 use Rattle.fixed.proofs.division.moved.Statement.{statement}

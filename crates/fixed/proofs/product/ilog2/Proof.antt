@@ -1,7 +1,6 @@
 -- `ilog2` meets its contract. Assumes nothing.
 use native.Mathlib.Omega.{arith}
 use lib.Bits.{bitOr}
-use lib.Count.{leadingZeros}
 use Rattle.fixed.specs.Product.{ilog2}
 use Rattle.fixed.proofs.Shift.{odd, ilog2-is, ilog2-odd}
 use Rattle.fixed.proofs.product.ilog2.Statement.{statement}

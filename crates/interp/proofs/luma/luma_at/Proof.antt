@@ -1,9 +1,9 @@
 -- `luma_at` meets its contract: the four entries are read back as they stand. Assumes nothing.
 use borrow.Author.Needs.{needs}
 use native.Mathlib.Omega.{arith}
-use mathlib.Core.Path.{_≡_, _∙_}
-use Prim.Native.Nat.{ℕ, _≤_, _<_, _+_}
-use lib.IntN.{ℤ, pos, natAbs}
+use mathlib.Core.Path.{_≡_}
+use Prim.Native.Nat.{ℕ, _<_, _+_}
+use lib.IntN.{ℤ, pos}
 use lib.ListN.{getD}
 use mir.Facts.{toZ-ofZ}
 use mir.Syntax.{w32}

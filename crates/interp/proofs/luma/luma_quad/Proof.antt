@@ -1,10 +1,8 @@
 -- `luma_quad` meets its contract: four samples, and four stores that fill the row. Assumes nothing.
 use borrow.Author.Needs.{needs}
 use native.Mathlib.Omega.{arith}
-use mathlib.Core.Path.{_≡_}
 use Prim.Native.Nat.{ℕ, _≤_, _+_}
-use lib.IntN.{pos}
-use lib.ListN.{length, getD, length-set}
+use lib.ListN.{length, length-set}
 use mir.Facts.{toZ-ofZ}
 use Rattle.zint.specs.Range.{Edge}
 use Rattle.lists.proofs.Block.{four-stores}

@@ -7,7 +7,7 @@ use mir.Syntax.{w32}
 use mir.Val.{SFits}
 use mir.Facts.{toZ-ofZ}
 use Rattle.zint.proofs.Range.{inside-abs}
-use Rattle.zint.proofs.Bound.{Bound, b-abs, b-lit, b-add, b-mul, b-shr, b-fits, back}
+use Rattle.zint.proofs.Bound.{b-abs, b-lit, b-add, b-mul, b-shr, b-fits, back}
 use Rattle.interp.specs.Interp.{taps4}
 use Rattle.interp.proofs.value.four.Statement.{statement}
 use Rattle.interp.proofs.value.four.Tie as tie
