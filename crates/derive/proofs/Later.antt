@@ -1,6 +1,6 @@
 -- A ladder with one rule more at its end. Assumes nothing.
-use mathlib.Core.Path.{_≡_, refl, _∙_, ap, subst}
-use mathlib.Core.Bool.{Bool, true, false, cond}
+use mathlib.Core.Path.{_≡_, refl, _∙_, ap}
+use mathlib.Core.Bool.{Bool, true, false, cond, true≢false}
 use mathlib.Core.List.{List, [], _∷_, _++_}
 use lib.Dec.{T}
 use Rattle.numbers.specs.Answer.{isDone}
@@ -11,7 +11,7 @@ use Rattle.ladder.proofs.Ladder.{refuses, AllKept, all-kept}
 -- a ladder that refuses gives the same answer whatever comes after its rules
 pub later-refused : (rules more : List Rule) → isDone (ladder rules) ≡ false → ladder (rules ++ more) ≡ ladder rules
 unfolding isDone
-later-refused [] more h = absurd (subst T h tt)
+later-refused [] more h = absurd (true≢false h)
 later-refused ((kept else refusal) ∷ rules) more h = go kept (later-refused rules more) h
   where
     go : (k : Bool) → (isDone (ladder rules) ≡ false → ladder (rules ++ more) ≡ ladder rules) → isDone (cond k (ladder rules) refusal) ≡ false

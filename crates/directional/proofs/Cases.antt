@@ -1,9 +1,9 @@
 -- The choice by angle, case by case: what a test has shown picks the block. Assumes nothing.
-use mathlib.Core.Bool.{Bool, true, false, cond, _&&_}
-use mathlib.Core.Path.{_≡_, sym, _∙_, ap, subst}
+use mathlib.Core.Bool.{Bool, true, false, cond, _&&_, true≢false}
+use mathlib.Core.Path.{_≡_, sym, _∙_, ap}
 use mathlib.Core.List.{List}
 use Prim.Native.Nat.{ℕ}
-use lib.Dec.{T, ltb}
+use lib.Dec.{ltb}
 use lib.Ieee.{Float}
 use lib.IntN.{ℤ, pos}
 use lib.ListN.{getD}
@@ -11,17 +11,14 @@ use Rattle.lists.specs.Block.{block}
 use Rattle.zones.specs.Zones.{z1At, z2At, z3At}
 use Rattle.directional.specs.Directional.{isDown, isAcross, directionalAt}
 
-never : true ≡ false → ⊥
-never e = subst T e tt
-
 -- 90 is copied down, and 180 across, whatever is there
 pub not-ninety : (up : Bool) (angle : ℕ) → isDown up angle ≡ false → angle ≡ 90 → ⊥
 unfolding isDown
-not-ninety up angle h e = never (sym (ap (isDown up) e) ∙ h)
+not-ninety up angle h e = true≢false (sym (ap (isDown up) e) ∙ h)
 
 pub not-half : (aside : Bool) (angle : ℕ) → isAcross aside angle ≡ false → angle ≡ 180 → ⊥
 unfolding isAcross
-not-half aside angle h e = never (sym (ap (isAcross aside) e) ∙ h)
+not-half aside angle h e = true≢false (sym (ap (isAcross aside) e) ∙ h)
 
 module _ (w h : ℕ) (M : ℤ) (up aside lum filter smooth : Bool) (wide high angle : ℕ) (above left : List ℤ) (k : ℤ) (out : List Float) where
   abbrev one : ℕ → ℕ → ℤ

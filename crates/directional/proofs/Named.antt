@@ -3,7 +3,7 @@ use mathlib.Core.Bool.{Bool, true, false, cond, _&&_}
 use mathlib.Core.Path.{_≡_, sym, _∙_, ap, subst}
 use Prim.Native.Nat.{ℕ, _*_, _/_, _≤_, _<_}
 use native.Mathlib.Omega.{arith}
-use lib.Dec.{T, leb}
+use lib.Dec.{leb}
 use lib.IntN.{ℤ, pos, natAbs}
 use Rattle.numbers.specs.Dir.{isDir, isDelta, deltaOf, angleOf}
 use Rattle.numbers.specs.declared.dir.Dir.{Dir}
@@ -33,10 +33,6 @@ module _ (found : FoundDir) (e : Dir) (word : ℕ) (p : found ≡ Is e) where
 
   pub angle-in : isDelta word ≡ true → (36 ≤ angleFrom found word) × (angleFrom found word ≤ 212)
   angle-in d = subst (λ f. (36 ≤ angleFrom f word) × (angleFrom f word ≤ 212)) (sym p) (angle-range e (deltaOf word) (delta-small word d))
-
--- a word that is not one of the names
-pub never : (t : Bool) → t ≡ true → t ≡ false → ⊥
-never t p q = subst T (sym p ∙ q) tt
 
 pub limit-most : (B word : ℕ) → B ≤ 65535 → word ≤ 65535 → limitOf B word ≤ 65535
 unfolding limitOf

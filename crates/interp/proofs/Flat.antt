@@ -1,9 +1,8 @@
 -- Where all entries that a sample reads are the same, the sample is that entry: the taps sum to 128, or to 32. Assumes nothing.
-use mathlib.Core.Bool.{Bool, true, false}
-use mathlib.Core.Path.{_≡_, sym, _∙_, ap, subst}
+use mathlib.Core.Bool.{Bool, true, false, true≢false}
+use mathlib.Core.Path.{_≡_, sym, _∙_, ap}
 use Prim.Native.Nat.{ℕ, _≤_, _<_, _+_, _-_, _*_, _/_}
 use native.Mathlib.Omega.{arith}
-use lib.Dec.{T}
 use lib.IntN.{ℤ, pos, negsuc, _+ℤ_, _*ℤ_}
 use lib.Arith.{digits-div}
 use lib.Signed.{shrZ}
@@ -54,7 +53,7 @@ flat2 f v h = ap (λ (n : ℕ). pos ((n + 16) / 32)) all ∙ ap pos (whole v 16 
 clip-in : (M : ℤ) (v : ℕ) → inside M (pos v) ≡ true → clip M (pos v) ≡ pos v
 unfolding clip inside
 clip-in (pos M) v h = let l = leb-true v M h in rw (le-ltb v 0 (omega arith), le-ltb M v (omega arith))
-clip-in (negsuc M) v h = absurd (subst T (sym h) tt)
+clip-in (negsuc M) v h = absurd (true≢false (sym h))
 
 -- all entries from the base on are the same
 pub between-flat : (lum : Bool) (M : ℤ) (p : ℕ → ℤ) (q v : ℕ) → inside M (pos v) ≡ true → ((k : ℕ) → q / 64 ≤ k → p k ≡ pos v) → between lum M p q ≡ pos v

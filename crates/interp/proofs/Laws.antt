@@ -1,12 +1,11 @@
 -- Laws of interpolation: what is clipped is in 0..M; taps over a part of a list are the taps over the whole from there on; samples that are whole
 -- entries apart. Assumes nothing.
-use mathlib.Core.Bool.{Bool, true, false, cond}
-use mathlib.Core.Path.{_≡_, refl, sym, _∙_, ap, subst}
+use mathlib.Core.Bool.{Bool, true, false, cond, true≢false}
+use mathlib.Core.Path.{_≡_, refl, sym, _∙_, ap}
 use Prim.Native.Nat.{ℕ, _≤_, _<_, _+_, _-_, _*_, _/_}
 use mathlib.Core.List.{List}
 use lib.ListN.{length, getD, take, drop}
 use native.Mathlib.Omega.{arith}
-use lib.Dec.{T}
 use lib.IntN.{ℤ, pos, negsuc, natAbs}
 use lib.Signed.{ltZ}
 use borrow.Author.Tests.{ltb-false, le-ltb}
@@ -25,8 +24,8 @@ clip-small m M x h = go M x (ltZ x (pos 0)) (ltZ M x) refl refl (inside-abs m M 
     go M x true t p q h k = omega arith
     go M x false true p q h k = h
     go (pos M) (pos x) false false p q h k = omega (arith, ltb-false M x q)
-    go (negsuc M) (pos x) false false p q h k = absurd (subst T q tt)
-    go M (negsuc x) false false p q h k = absurd (subst T p tt)
+    go (negsuc M) (pos x) false false p q h k = absurd (true≢false q)
+    go M (negsuc x) false false p q h k = absurd (true≢false p)
 
 inside-neg : (m n : ℕ) → inside (pos m) (negsuc n) ≡ true → false ≡ true
 unfolding inside
@@ -40,7 +39,7 @@ clip-steps m M x h = go (ltZ x (pos 0)) M h
     go : (t : Bool) (M : ℤ) → inside (pos m) M ≡ true → cond (ltZ M (cond t (pos 0) x)) M (cond t (pos 0) x) ≡ cond t (pos 0) (cond (ltZ M x) M x)
     go false M h = refl
     go true (pos n) h = rw (le-ltb n 0 (omega arith))
-    go true (negsuc n) h = absurd (subst T (sym (inside-neg m n h)) tt)
+    go true (negsuc n) h = absurd (true≢false (sym (inside-neg m n h)))
 
 -- ---- a list lent from s on
 abbrev pub rest : ℕ → List ℤ → List ℤ

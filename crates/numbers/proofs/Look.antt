@@ -1,10 +1,10 @@
 -- Laws of the lookup, once for every enum: what it finds has the number that was looked for, and it finds a case exactly where the number is among
 -- the cases'. Assumes nothing.
 use mathlib.Core.Path.{_≡_, refl, sym, _∙_, ap, subst}
-use mathlib.Core.Bool.{Bool, true, false, cond, _||_}
+use mathlib.Core.Bool.{Bool, true, false, cond, _||_, true≢false}
 use mathlib.Core.List.{List, [], _∷_}
 use Prim.Native.Nat.{ℕ}
-use lib.Dec.{T, eqb}
+use lib.Dec.{eqb}
 use borrow.Author.Tests.{eqb-true}
 use Rattle.numbers.specs.Look.{look, among}
 
@@ -43,7 +43,7 @@ Every P [] = Unit
 Every P (e ∷ es) = P e × Every P es
 
 pub among-all : {E : Type 0} (number : E → ℕ) (P : ℕ → Type 0) (es : List E) (n : ℕ) → Every (λ e. P (number e)) es → among number es n ≡ true → P n
-among-all number P [] n all h = absurd (subst T (sym h) tt)
+among-all number P [] n all h = absurd (true≢false (sym h))
 among-all number P (e ∷ es) n all h = go (eqb n (number e)) (eqb-true n (number e)) (among-all number P es n (all .1)) h
   where
     go : (t : Bool) → (t ≡ true → n ≡ number e) → (among number es n ≡ true → P n) → (t || among number es n) ≡ true → P n

@@ -1,12 +1,11 @@
 -- Laws of a walk, for whatever is walked along: steps that do nothing, a relation that every step keeps, a test of every place. Assumes nothing.
-use mathlib.Core.Path.{_≡_, refl, sym, _∙_, ap, subst}
-use mathlib.Core.Bool.{Bool, true, false, cond, _&&_}
+use mathlib.Core.Path.{_≡_, refl, sym, _∙_, ap}
+use mathlib.Core.Bool.{Bool, true, false, cond, _&&_, true≢false}
 use mathlib.Core.Logic.{⊎-elim}
 use Prim.Native.Nat.{ℕ, zero, suc, _+_, _≤_, _<_}
 use native.Mathlib.Nat.{eq-or-lt-of-le, le-of-suc-le-suc}
 use native.Mathlib.Numerals.{add-one}
 use native.Mathlib.Omega.{arith}
-use lib.Dec.{T}
 use Rattle.zint.proofs.Range.{and-both}
 use Rattle.sums.specs.Places.{counts, fold, row}
 use Rattle.sums.specs.declared.window.Window.{Window}
@@ -81,7 +80,7 @@ fold-true c q (suc n) b e =
   where
     step : (t u v : Bool) → cond t (v && u) v ≡ true → (v ≡ true) × (t ≡ true → u ≡ true)
     step true u v h = let p = and-both v u h in (p .0, λ z. p .1)
-    step false u v h = (h, λ z. absurd (subst T (sym z) tt))
+    step false u v h = (h, λ z. absurd (true≢false (sym z)))
 
 pub rows-true : (w : Window) (q : ℕ → ℕ → Bool) (j : ℕ) → fold j (row w (λ x y ok. ok && q x y)) true ≡ true
     → (x y : ℕ) → x < w .«ref_width» → y < j → counts w x y ≡ true → q x y ≡ true

@@ -1,6 +1,6 @@
 -- Order: what a test of signed numbers says of their parts, and a test from what is known. Assumes nothing.
-use mathlib.Core.Path.{_≡_, refl, sym, ap, subst}
-use mathlib.Core.Bool.{Bool, true, false, cond}
+use mathlib.Core.Path.{_≡_, refl, sym, ap}
+use mathlib.Core.Bool.{Bool, true, false, true≢false}
 use Prim.Native.Nat.{ℕ, zero, suc, _+_, _≤_, _<_}
 use native.Mathlib.Omega.{arith}
 use lib.IntN.{ℤ, pos, negsuc, negℤ}
@@ -9,31 +9,28 @@ use lib.Dec.{T, leb, eqb, eqb→eq, leb·suc-suc}
 use borrow.Author.Tests.{ltb-true, ltb-false, leb-true, leb-false, lt-ltb, le-ltb, le-leb, lt-leb}
 use Rattle.zint.proofs.Parts.{up, dn}
 
-never : false ≡ true → ⊥
-never h = subst (λ (t : Bool). cond t ⊥ (Unit {0})) h tt
-
 pub leZ-true : (a b : ℤ) → leZ a b ≡ true → up a + dn b ≤ up b + dn a
 leZ-true (pos a) (pos b) h = omega (arith, leb-true a b h)
-leZ-true (pos a) (negsuc b) h = absurd (never h)
+leZ-true (pos a) (negsuc b) h = absurd (true≢false (sym h))
 leZ-true (negsuc a) (pos b) h = omega arith
 leZ-true (negsuc a) (negsuc b) h = omega (arith, leb-true b a h)
 
 pub leZ-false : (a b : ℤ) → leZ a b ≡ false → up b + dn a < up a + dn b
 leZ-false (pos a) (pos b) h = omega (arith, leb-false a b h)
 leZ-false (pos a) (negsuc b) h = omega arith
-leZ-false (negsuc a) (pos b) h = absurd (never (sym h))
+leZ-false (negsuc a) (pos b) h = absurd (true≢false h)
 leZ-false (negsuc a) (negsuc b) h = omega (arith, leb-false b a h)
 
 pub ltZ-true : (a b : ℤ) → ltZ a b ≡ true → up a + dn b < up b + dn a
 ltZ-true (pos a) (pos b) h = omega (arith, ltb-true a b h)
-ltZ-true (pos a) (negsuc b) h = absurd (never h)
+ltZ-true (pos a) (negsuc b) h = absurd (true≢false (sym h))
 ltZ-true (negsuc a) (pos b) h = omega arith
 ltZ-true (negsuc a) (negsuc b) h = omega (arith, ltb-true b a h)
 
 pub ltZ-false : (a b : ℤ) → ltZ a b ≡ false → up b + dn a ≤ up a + dn b
 ltZ-false (pos a) (pos b) h = omega (arith, ltb-false a b h)
 ltZ-false (pos a) (negsuc b) h = omega arith
-ltZ-false (negsuc a) (pos b) h = absurd (never (sym h))
+ltZ-false (negsuc a) (pos b) h = absurd (true≢false h)
 ltZ-false (negsuc a) (negsuc b) h = omega (arith, ltb-false b a h)
 
 pub le-leZ : (a b : ℤ) → up a + dn b ≤ up b + dn a → leZ a b ≡ true

@@ -1,12 +1,11 @@
 -- Laws of numbers in 0..m. Assumes nothing.
-use mathlib.Core.Path.{_≡_, refl, sym, subst}
-use mathlib.Core.Bool.{Bool, true, false, _&&_}
+use mathlib.Core.Path.{_≡_, refl, sym}
+use mathlib.Core.Bool.{Bool, true, false, _&&_, true≢false}
 use mathlib.Core.List.{List}
 use mathlib.Core.Logic.{⊎-elim}
 use Prim.Native.Nat.{ℕ, zero, suc, _≤_, _<_}
 use native.Mathlib.Nat.{eq-or-lt-of-le, le-of-suc-le-suc}
 use native.Mathlib.Omega.{arith}
-use lib.Dec.{T}
 use lib.IntN.{ℤ, pos, negsuc, natAbs}
 use lib.ListN.{getD}
 use borrow.Author.Tests.{leb-true, le-leb}
@@ -14,18 +13,18 @@ use Rattle.zint.specs.Range.{inside, allInside}
 
 pub and-both : (a b : Bool) → (a && b) ≡ true → (a ≡ true) × (b ≡ true)
 and-both true b e = (refl, e)
-and-both false b e = absurd (subst T (sym e) tt)
+and-both false b e = absurd (true≢false (sym e))
 
 pub inside-abs : (m : ℕ) (z : ℤ) → inside (pos m) z ≡ true → natAbs z ≤ m
 unfolding inside
 inside-abs m (pos n) e = leb-true n m e
-inside-abs m (negsuc n) e = absurd (subst T (sym e) tt)
+inside-abs m (negsuc n) e = absurd (true≢false (sym e))
 
 -- it is the natural number of its size
 pub inside-pos : (m : ℕ) (z : ℤ) → inside (pos m) z ≡ true → z ≡ pos (natAbs z)
 unfolding inside
 inside-pos m (pos n) e = refl
-inside-pos m (negsuc n) e = absurd (subst T (sym e) tt)
+inside-pos m (negsuc n) e = absurd (true≢false (sym e))
 
 pub pos-inside : (m n : ℕ) → n ≤ m → inside (pos m) (pos n) ≡ true
 unfolding inside

@@ -1,6 +1,7 @@
 -- `directed_into` meets its contract: the words' direction, depth, flags and limits are the definition's. Assumes nothing.
 use native.Mathlib.Omega.{arith}
 use mathlib.Core.Path.{sym, _∙_}
+use mathlib.Core.Bool.{true≢false}
 use mir.Facts.{toZ-ofZ}
 use borrow.Author.Needs.{needs}
 use Rattle.numbers.specs.Depth.{most}
@@ -10,7 +11,7 @@ use Rattle.zint.proofs.Range.{pos-inside}
 use Rattle.calls.proofs.Accepted.{depth-most}
 use Rattle.lists.specs.Block.{block}
 use Rattle.directional.specs.Directional.{directionalAt}
-use Rattle.directional.proofs.Named.{fours, named-all, never, limit-most}
+use Rattle.directional.proofs.Named.{fours, named-all, limit-most}
 use Rattle.directional.proofs.words.directed_into.Proof.Found.{names, t, delta-is, angle-is, angle-ok, a, u, M-is}
 use Rattle.directional.proofs.words.directed_into.Statement.{statement}
 use Rattle.directional.proofs.words.directed_into.Tie as tie
@@ -26,7 +27,7 @@ enum-told : tie.Need-enum-told
 enum-told c = search needs
 
 returns : tie.Need-returns
-returns c = absurd (never _ (named-all _ _ _ (c .before .before .before .before .pre .0 .2) .0) (dir-no _ (sym (c .before .before .of .ensures) ∙ c .enum-told .given .1)))
+returns c = absurd (true≢false (sym (named-all _ _ _ (c .before .before .before .before .pre .0 .2) .0) ∙ dir-no _ (sym (c .before .before .of .ensures) ∙ c .enum-told .given .1)))
 
 of-requires-2 : tie.Need-of-requires-2
 of-requires-2 c κs = search needs
@@ -38,7 +39,7 @@ enum-told-2 : tie.Need-enum-told-2
 enum-told-2 c = search needs
 
 returns-2 : tie.Need-returns-2
-returns-2 c = absurd (never _ (c .before .before .before .before .before .before .before .before .pre .0 .1) (depth-no _ (sym (c .before .before .of2 .ensures) ∙ c .enum-told2 .given .1)))
+returns-2 c = absurd (true≢false (sym (c .before .before .before .before .before .before .before .before .pre .0 .1) ∙ depth-no _ (sym (c .before .before .of2 .ensures) ∙ c .enum-told2 .given .1)))
 
 of-requires-3 : tie.Need-of-requires-3
 of-requires-3 c κs = search needs

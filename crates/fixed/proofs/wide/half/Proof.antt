@@ -1,8 +1,7 @@
 -- `half` meets its contract. Assumes nothing.
-use mathlib.Core.Path.{_≡_, refl, subst}
-use mathlib.Core.Bool.{true, false}
+use mathlib.Core.Path.{_≡_, refl}
+use mathlib.Core.Bool.{true, false, true≢false}
 use native.Mathlib.Omega.{arith}
-use lib.Dec.{T}
 use lib.IntN.{ℤ, pos, negsuc}
 use lib.Signed.{ltZ}
 use mir.Facts.{toZ-ofZ}
@@ -17,7 +16,7 @@ down (negsuc n) e = refl
 
 up : (a : ℤ) → ltZ a (pos 0) ≡ false → pos 32768 ≡ halfOf a
 up (pos n) e = refl
-up (negsuc n) e = absurd (subst T e tt)
+up (negsuc n) e = absurd (true≢false e)
 
 returns : tie.Need-returns
 returns c = let s = c .before in down (s .args .a) (simp (toZ-ofZ, s .fits .a) at (c .if1 .taken))

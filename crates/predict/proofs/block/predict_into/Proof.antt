@@ -1,16 +1,11 @@
 -- `predict_into` meets its contract: whichever product serves, the rows are the definition's block. Assumes nothing.
 use borrow.Author.Needs.{needs}
-use mathlib.Core.Path.{_≡_, _∙_, sym, subst}
-use mathlib.Core.Bool.{Bool, true, false}
-use lib.Dec.{T}
+use mathlib.Core.Path.{_∙_, sym}
+use mathlib.Core.Bool.{true≢false}
 use mir.Facts.{toZ-ofZ}
 use Rattle.predict.proofs.Taken.{block-is}
 use Rattle.predict.proofs.block.predict_into.Statement.{statement}
 use Rattle.predict.proofs.block.predict_into.Tie as tie
-
--- no product is both
-not-both : (b : Bool) → b ≡ true → b ≡ false → ⊥
-not-both b p q = subst T (sym p ∙ q) tt
 
 of-requires : tie.Need-of-requires
 of-requires c κs = search needs
@@ -26,7 +21,7 @@ lines-requires c κs =
     let t = c .before .before .before in
     let o = t .before in
     let s = o .before in
-    ((s .pre .0 .1, s .pre .0 .2, s .pre .1), (o .of .ensures .0, o .of .ensures .1 .bits, λ e. absurd (not-both _ (t .if1 .taken) e)))
+    ((s .pre .0 .1, s .pre .0 .2, s .pre .1), (o .of .ensures .0, o .of .ensures .1 .bits, λ e. absurd (true≢false (sym (t .if1 .taken) ∙ e))))
 
 tabled-requires : tie.Need-tabled-requires
 tabled-requires c κs = search needs

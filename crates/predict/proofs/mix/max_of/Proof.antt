@@ -1,7 +1,7 @@
 -- `max_of` meets its contract: the depth is found, since the number is one. Assumes nothing.
 use borrow.Author.Needs.{needs, sfits-of}
-use mathlib.Core.Path.{sym, _∙_, ap, subst}
-use lib.Dec.{T}
+use mathlib.Core.Path.{sym, _∙_, ap}
+use mathlib.Core.Bool.{true≢false}
 use lib.IntN.{pos}
 use mir.Syntax.{w32}
 use Rattle.numbers.specs.Depth.{most}
@@ -23,7 +23,7 @@ returns : tie.Need-returns
 returns c =
     let f = c .before .before in
     let no = depth-no (f .before .args .d) (sym (f .depth-of .ensures) ∙ c .enum-told .given .1) in
-    absurd (subst T (sym (f .before .pre) ∙ no) tt)
+    absurd (true≢false (sym (f .before .pre) ∙ no))
 
 max-requires : tie.Need-max-requires
 max-requires c κs = search needs
