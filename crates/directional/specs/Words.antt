@@ -2,12 +2,14 @@
 use Prim.Native.Nat.{ℕ}
 use mathlib.Core.Bool.{Bool, cond, _&&_}
 use lib.Dec.{leb}
-use lib.IntN.{pos, natAbs}
+use lib.IntN.{ℤ, pos, natAbs}
 use Rattle.numbers.specs.Depth.{most}
 use Rattle.numbers.specs.Dir.{dirOf, angleOf, deltaOf, isDir, isDelta}
 use Rattle.numbers.specs.Flag.{isSet, noStray}
+use Rattle.numbers.specs.declared.dir.Dir.{Dir}
 use Rattle.numbers.specs.declared.dir.FoundDir.{FoundDir}
 use Rattle.numbers.specs.declared.dir.FoundDir.the-variants.{Is, NoDir}
+use Rattle.numbers.specs.declared.flag.Flags.{Flags}
 use Rattle.numbers.specs.declared.flag.Flag.the-variants.{Above, Left, Luma, EdgeFilter, SmoothNeighbour}
 use Rattle.calls.specs.Direct.{Predictor}
 use Rattle.directional.specs.Directional.{directionalAt}
@@ -24,6 +26,12 @@ angleFrom NoDir delta = 0
 -- "Max-width or max-height 0 stands for B."
 unfoldable pub limitOf : ℕ → ℕ → ℕ
 limitOf B word = cond (leb 1 word) word B
+
+-- the predictor of a direction with its delta, at depth D
+abbrev pub turnedBy : ℕ → Dir → ℤ → Flags → ℕ → ℕ → Predictor
+turnedBy D dir delta f wide high B above left k =
+    directionalAt B B (pos (most D)) (f .above) (f .left) (f .luma) (f .«edge_filter») (f .«smooth_neighbour»)
+    (limitOf B wide) (limitOf B high) (natAbs (angleOf dir delta)) above left k
 
 -- the predictor that the words name, at depth D
 abbrev pub directed : ℕ → ℕ → ℕ → ℕ → ℕ → ℕ → Predictor

@@ -3,6 +3,7 @@ pub mod choice;
 pub mod copies;
 pub mod ready;
 pub mod steps;
+pub mod turned;
 pub mod words;
 pub mod zone1;
 pub mod zone2;

@@ -1,7 +1,5 @@
 // A direction in a job's words (document 01, Ranges and numbers that name things).
-use crate::choice;
-use numbers::depth::Depth;
-use numbers::depth::FoundDepth;
+use crate::turned;
 use numbers::dir::Dir;
 use numbers::dir::FoundDir;
 use numbers::flag::Flags;
@@ -14,7 +12,7 @@ ghost use Rattle.numbers.specs.Size.{isSize};
 ghost use Rattle.numbers.specs.Depth.{isDepth, most};
 ghost use Rattle.zint.specs.Range.{inside, Edge};
 ghost use Rattle.lists.specs.Block.{block};
-ghost use Rattle.directional.specs.Words.{isNamed, limitOf, directed};
+ghost use Rattle.directional.specs.Words.{isNamed, directed};
 
 // Refusal 3: whether the words name a direction.
 pub fn is_named(direction: u16, delta: u16, flags: u16) -> bool
@@ -27,13 +25,6 @@ pub fn is_named(direction: u16, delta: u16, flags: u16) -> bool
         return false;
     }
     Flags::no_stray(flags)
-}
-
-// "Max-width or max-height 0 stands for B."
-fn limit_of(b: u16, word: u16) -> usize
-    ensures { λ r. ⌜ r ≡ limitOf b word ⌝ }
-{
-    if word > 0 { word as usize } else { b as usize }
 }
 
 // The block that the words name, in out[..b * b].
@@ -57,21 +48,14 @@ pub fn directed_into(
     let FoundDir::Is(dir) = Dir::of(direction) else {
         return;
     };
-    let FoundDepth::Is(depth) = Depth::of(d) else {
-        return;
-    };
-    let f = Flags::of(flags);
-    choice::directional_into(
-        b as usize,
-        dir.turned(Dir::delta(delta)),
-        f.above,
-        f.left,
-        f.luma,
-        f.edge_filter,
-        f.smooth_neighbour,
-        limit_of(b, wide),
-        limit_of(b, high),
-        depth.max(),
+    turned::turned_into(
+        b,
+        d,
+        dir,
+        Dir::delta(delta),
+        Flags::of(flags),
+        wide,
+        high,
         above,
         left,
         corner,

@@ -10,7 +10,7 @@ use lib.IntN.{ℤ, pos, negsuc, natAbs}
 use lib.Signed.{ltZ}
 use borrow.Author.Tests.{ltb-false, le-ltb}
 use Rattle.zint.specs.Range.{inside, Edge}
-use Rattle.zint.proofs.Range.{inside-abs}
+use Rattle.zint.proofs.Range.{inside-abs, pos-inside}
 use Rattle.lists.proofs.Fill.{rest-at}
 use Rattle.interp.specs.F4.{f4}
 use Rattle.interp.specs.Interp.{clip, taps4, taps2, luma, chroma, phase, between}
@@ -26,6 +26,16 @@ clip-small m M x h = go M x (ltZ x (pos 0)) (ltZ M x) refl refl (inside-abs m M 
     go (pos M) (pos x) false false p q h k = omega (arith, ltb-false M x q)
     go (negsuc M) (pos x) false false p q h k = absurd (true≢false q)
     go M (negsuc x) false false p q h k = absurd (true≢false p)
+
+pub clip-inside : (M : ℕ) (x : ℤ) → inside (pos M) (clip (pos M) x) ≡ true
+unfolding clip
+clip-inside M x = go x (ltZ x (pos 0)) (ltZ (pos M) x) refl refl
+  where
+    go : (x : ℤ) (s t : Bool) → ltZ x (pos 0) ≡ s → ltZ (pos M) x ≡ t → inside (pos M) (cond s (pos 0) (cond t (pos M) x)) ≡ true
+    go x true t p q = pos-inside M 0 (omega arith)
+    go x false true p q = pos-inside M M (omega arith)
+    go (pos x) false false p q = pos-inside M x (ltb-false M x q)
+    go (negsuc x) false false p q = absurd (true≢false p)
 
 inside-neg : (m n : ℕ) → inside (pos m) (negsuc n) ≡ true → false ≡ true
 unfolding inside

@@ -1,9 +1,12 @@
--- A ladder that comes to done has all its rules kept. Assumes nothing.
-use mathlib.Core.Path.{_≡_, refl, subst}
+-- A ladder that comes to done has all its rules kept; and rules that are tested after others. Assumes nothing.
+use mathlib.Core.Path.{_≡_, refl, sym, ap, subst}
 use mathlib.Core.Bool.{Bool, true, false, cond, _&&_}
-use mathlib.Core.List.{List, [], _∷_}
-use lib.Dec.{T, ltb}
-use Rattle.numbers.specs.Answer.{answerNumber}
+use mathlib.Core.List.{List, [], _∷_, _++_}
+use Prim.Native.Nat.{ℕ}
+use native.Mathlib.Omega.{arith}
+use lib.Dec.{T, ltb, eqb, ltb→lt}
+use borrow.Author.Tests.{ne-eqb}
+use Rattle.numbers.specs.Answer.{answerNumber, isDone}
 use Rattle.numbers.specs.declared.answer.Answer.{Answer}
 use Rattle.numbers.specs.declared.answer.Answer.the-variants.{Done}
 use Rattle.ladder.specs.Ladder.{Rule, _else_, ladder}
@@ -36,3 +39,19 @@ all-kept ((kept else refusal) ∷ rules) t e =
     go : (k : Bool) → T (ltb 0 (answerNumber refusal)) → (ladder rules ≡ Done → AllKept rules) → cond k (ladder rules) refusal ≡ Done → (k ≡ true) × AllKept rules
     go true n later h = (refl, later h)
     go false n later h = absurd (no-done refusal n h)
+
+-- ---- rules that are tested after others
+not-zero : (n : ℕ) → T (ltb 0 n) → eqb n 0 ≡ false
+not-zero n t = let h = ltb→lt 0 n t in ne-eqb n 0 (λ e. omega arith)
+
+pub ladder-append : (rules more : List Rule) → T (refuses rules) → ladder (rules ++ more) ≡ cond (isDone (ladder rules)) (ladder more) (ladder rules)
+unfolding isDone
+ladder-append [] more t = refl
+ladder-append ((kept else refusal) ∷ rules) more t =
+    go kept (and-left (ltb 0 (answerNumber refusal)) (refuses rules) t) (ladder-append rules more (and-right (ltb 0 (answerNumber refusal)) (refuses rules) t))
+  where
+    go : (k : Bool) → T (ltb 0 (answerNumber refusal))
+        → ladder (rules ++ more) ≡ cond (isDone (ladder rules)) (ladder more) (ladder rules)
+        → cond k (ladder (rules ++ more)) refusal ≡ cond (isDone (cond k (ladder rules) refusal)) (ladder more) (cond k (ladder rules) refusal)
+    go true n later = later
+    go false n later = sym (ap (λ b. cond b (ladder more) refusal) (not-zero (answerNumber refusal) n))

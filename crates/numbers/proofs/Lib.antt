@@ -3,3 +3,4 @@ pub mod Look
 pub mod Agree
 pub mod Named
 pub mod Angle
+pub mod Place

@@ -1,0 +1,49 @@
+-- `hits` meets its contract: the runs above, those at the left, the corner, the block. Assumes nothing.
+use Rattle.order.proofs.Runs.{hits-is}
+use borrow.Author.Needs.{needs}
+use Rattle.order.proofs.clash.hits.Statement.{statement}
+use Rattle.order.proofs.clash.hits.Tie as tie
+use Rattle.order.proofs.clash.hits.Reads as reads
+use Rattle.order.proofs.clash.hits.Lts as lts
+use Rattle.order.proofs.clash.meets_above.Reads as meets-above-reads
+use Rattle.order.proofs.clash.meets_corner.Reads as meets-corner-reads
+use Rattle.order.proofs.clash.meets_left.Reads as meets-left-reads
+use Rattle.order.proofs.clash.square.Reads as square-reads
+use Rattle.order.proofs.rect.meet.Reads as meet-reads
+
+square-requires : tie.Need-square-requires
+square-requires c κs = search needs
+
+meets-above-requires : tie.Need-meets-above-requires
+meets-above-requires c κs = search needs
+
+meets-left-requires : tie.Need-meets-left-requires
+meets-left-requires c κs = search needs
+
+meets-corner-requires : tie.Need-meets-corner-requires
+meets-corner-requires c κs = search needs
+
+square-requires-2 : tie.Need-square-requires-2
+square-requires-2 c κs = search needs
+
+meet-requires : tie.Need-meet-requires
+meet-requires c κs = search needs
+
+returns : tie.Need-returns
+returns c =
+    let k = c .before .before .before .before in
+    let a = k .before .before .args in
+    hits-is _ _ (a .s) (a .t) (k .before .square .ensures .0) (c .before .square2 .ensures .0) _ _ _ _
+    (k .meets-above .ensures) (c .before .before .before .meets-left .ensures) (c .before .before .meets-corner .ensures) (c .meet .ensures)
+
+pub hits-spec : {M : Type 1} → statement M
+hits-spec =
+    tie.close
+    (tie.spec
+    square-requires
+    meets-above-requires
+    meets-left-requires
+    meets-corner-requires
+    square-requires-2
+    meet-requires
+    returns)

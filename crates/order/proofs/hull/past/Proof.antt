@@ -1,0 +1,21 @@
+-- `past` meets its contract. Assumes nothing.
+use mathlib.Core.Path.{sym, _∙_, ap}
+use Rattle.order.specs.Hull.{past}
+use borrow.Author.Needs.{needs}
+use Rattle.order.proofs.hull.past.Statement.{statement}
+use Rattle.order.proofs.hull.past.Tie as tie
+use Rattle.order.proofs.hull.past.Reads as reads
+use Rattle.order.proofs.hull.past.Lts as lts
+use Rattle.pick.proofs.least.Reads as least-reads
+
+least-requires : tie.Need-least-requires
+least-requires c κs = search needs
+
+returns : tie.Need-returns
+returns c = c .least .ensures ∙ ap (λ b. past b (c .before .before .args .more) (c .before .before .args .b)) (sym (c .before .if1 .taken))
+
+returns-2 : tie.Need-returns-2
+returns-2 c = search needs
+
+pub past-spec : {M : Type 1} → statement M
+past-spec = tie.close (tie.spec least-requires returns returns-2)

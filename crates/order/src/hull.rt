@@ -1,0 +1,76 @@
+// A job's block and its hull, the rectangle around all that it reads and writes: two jobs whose blocks and hulls do not meet cannot clash
+// (proofs/Meets). Both are empty if it fails 1 to 7.
+use crate::clash;
+use crate::rect::Rect;
+use crate::sides;
+use crate::sides::Sides;
+use edges::spec::IntraRefSpec;
+ghost use mathlib.Core.Path.{_≡_};
+ghost use mathlib.Core.Bool.{true};
+ghost use Rattle.order.specs.Hull.{one, past, squareOf, hullOf, onlyIf};
+ghost use Rattle.order.specs.Rects.{rectOf, Near, Placed};
+ghost use Rattle.order.specs.Sides.{sidesOf};
+
+// One row or column more if the neighbour is there.
+fn one(there: bool) -> usize
+    ensures { λ r. ⌜ r ≡ one there ⌝ }
+{
+    if there { 1 } else { 0 }
+}
+
+// And the samples past the block.
+fn past(there: bool, more: usize, b: usize) -> usize
+    ensures { λ r. ⌜ r ≡ past there more b ⌝ }
+{
+    if there { pick::least(more, b) } else { 0 }
+}
+
+// The hull.
+fn hull(s: IntraRefSpec) -> Rect
+    requires { ⌜ Near s ⌝ }
+    ensures { λ r. ⌜ rectOf r ≡ hullOf s ⌝ }
+{
+    let b = s.b as usize;
+    let left = one(s.have_left);
+    let above = one(s.have_above);
+    Rect {
+        x: s.x as usize - left,
+        y: s.y as usize - above,
+        w: left + b + past(s.have_above, s.top_right as usize, b),
+        h: above + b + past(s.have_left, s.bottom_left as usize, b),
+    }
+}
+
+// Nothing: a row without a sample.
+fn none() -> Sides
+    ensures { λ r. ⌜ r ≡ sidesOf (record { x = 0; y = 0; w = 0; h = 0 }) ⌝ }
+{
+    Sides {
+        x0: 0,
+        x1: 0,
+        y0: 0,
+        y1: 0,
+    }
+}
+
+// The bounds of the block.
+pub fn block_sides(on: bool, s: IntraRefSpec) -> Sides
+    requires { ⌜ (on ≡ true → Placed s) ⌝ }
+    ensures { λ r. ⌜ r ≡ sidesOf (onlyIf on (squareOf s)) ⌝ }
+{
+    if !on {
+        return none();
+    }
+    sides::sides_of(clash::square(s))
+}
+
+// The bounds of the hull.
+pub fn hull_sides(on: bool, s: IntraRefSpec) -> Sides
+    requires { ⌜ (on ≡ true → Placed s) ⌝ }
+    ensures { λ r. ⌜ r ≡ sidesOf (onlyIf on (hullOf s)) ⌝ }
+{
+    if !on {
+        return none();
+    }
+    sides::sides_of(hull(s))
+}

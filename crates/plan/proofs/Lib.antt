@@ -1,0 +1,5 @@
+-- The theorem on orders, and orders that are accepted or refused.
+pub mod Reorder
+pub mod Cases
+pub mod Steps
+pub mod Tests

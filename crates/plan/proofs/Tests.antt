@@ -1,0 +1,72 @@
+-- What the tests of a run have shown: a plan of whole rows, an order that may be walked, and the plan's own order, which passes. Assumes nothing.
+use mathlib.Core.Path.{_≡_, refl, sym, _∙_, ap, subst}
+use mathlib.Core.Bool.{Bool, true, false, cond, _&&_}
+use mathlib.Core.List.{List}
+use Prim.Native.Nat.{ℕ, _*_, _/_, _%_, _≤_}
+use native.Mathlib.Omega.{arith}
+use lib.Dec.{leb, eqb}
+use lib.ListN.{length}
+use borrow.Author.Tests.{eqb-true, leb-true}
+use Rattle.numbers.specs.declared.answer.Answer.{Answer}
+use Rattle.zint.proofs.Range.{and-both}
+use Rattle.edges.specs.Rules.{inRange, isPlane}
+use Rattle.reorder.specs.Check.{onceB, keptB}
+use Rattle.job.specs.Row.{rowAt}
+use Rattle.job.specs.Rects.{clashOf}
+use Rattle.order.specs.Rules.{jobsIn, isOnce, isKept}
+use Rattle.order.specs.Own.{isOwn}
+use Rattle.order.specs.Window.{Walk}
+use Rattle.order.proofs.InPlace.{own-once, own-kept}
+use Rattle.plan.specs.Rules.{isPlan}
+
+-- ---- the ladder: a rule that is kept leaves the later ones, and one that is broken gives its answer
+pub kept : (a later refusal : Answer) (k : Bool) → k ≡ true → a ≡ cond k later refusal → a ≡ later
+kept a later refusal k e p = p ∙ ap (λ t. cond t later refusal) e
+
+pub broken : (a later refusal : Answer) (k : Bool) → k ≡ false → a ≡ cond k later refusal → refusal ≡ a
+broken a later refusal k e p = sym (p ∙ ap (λ t. cond t later refusal) e)
+
+-- ---- the plane's sides
+pub sides : (W H samples : ℕ) → isPlane W H samples ≡ true → (W ≤ 4096) × (H ≤ 4096)
+unfolding isPlane
+sides W H samples e =
+    let p = and-both (inRange W) (inRange H) (and-both (inRange W && inRange H) _ e .0) in
+    (leb-true _ _ (and-both (leb 4 W) _ (p .0) .1), leb-true _ _ (and-both (leb 4 H) _ (p .1) .1))
+
+module _ (plan order : List ℕ) (answers : ℕ) (e : isPlan plan (length order) answers ≡ true) where
+  parts : (length plan % 16 ≡ 0) × (jobsIn plan ≤ 1024) × (length order ≡ jobsIn plan) × (answers ≡ jobsIn plan)
+  unfolding isPlan
+  parts =
+      let q = and-both (eqb (length plan % 16) 0 && leb (jobsIn plan) 1024 && eqb (length order) (jobsIn plan)) _ e in
+      let r = and-both (eqb (length plan % 16) 0 && leb (jobsIn plan) 1024) _ (q .0) in
+      let t = and-both (eqb (length plan % 16) 0) _ (r .0) in
+      (eqb-true _ _ (t .0), leb-true _ _ (t .1), eqb-true _ _ (r .1), eqb-true _ _ (q .1))
+
+  pub entries : length order ≡ jobsIn plan
+  entries = parts .2
+
+  pub slots : answers ≡ jobsIn plan
+  slots = parts .3
+
+  pub few : length order ≤ 1024
+  few = omega (arith, parts .1, parts .2)
+
+  pub whole : length plan ≡ 16 * length order
+  whole = omega (arith, parts .0, parts .2)
+
+  pub walk : (W H : ℕ) → (W ≤ 4096) × (H ≤ 4096) → onceB (length order) order ≡ true → Walk W H plan order
+  walk W H s o = record { wide = s .0; high = s .1; whole = whole; few = few; once = o }
+
+  -- refusal 22, of as many jobs as the order has entries
+  pub once-is : onceB (length order) order ≡ isOnce plan order
+  unfolding isOnce
+  once-is = ap (λ n. onceB n order) entries
+
+  -- the plan's own order
+  module _ (own : isOwn order ≡ true) where
+    pub own-is-once : isOnce plan order ≡ true
+    own-is-once = sym once-is ∙ own-once order own
+
+    pub own-is-kept : (W H n : ℕ) → isKept W H n plan order ≡ true
+    unfolding isKept
+    own-is-kept W H n = ap (λ m. keptB (λ i j. clashOf W H n (rowAt plan i) (rowAt plan j)) m order) (sym entries) ∙ own-kept order own _

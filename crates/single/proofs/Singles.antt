@@ -1,0 +1,52 @@
+-- A single job: refused by 20 or 21, or as in a run. Assumes nothing.
+use mathlib.Core.Path.{_≡_, refl, sym, _∙_, ap}
+use mathlib.Core.Bool.{true, false, cond}
+use mathlib.Core.List.{List, _++_}
+use Prim.Native.Nat.{ℕ}
+use lib.Dec.{eqb}
+use lib.IntN.{ℤ}
+use lib.Ieee.{Float}
+use lib.ListN.{length}
+use Rattle.numbers.specs.Answer.{isDone}
+use Rattle.numbers.specs.declared.answer.Answer.{Answer}
+use Rattle.numbers.specs.declared.answer.Answer.the-variants.{BadPlane, BadPlan}
+use Rattle.ladder.specs.Ladder.{ladder}
+use Rattle.ladder.specs.Promise.{lent, Promise}
+use Rattle.ladder.proofs.Promise.{refused}
+use Rattle.edges.specs.Rules.{isPlane}
+use Rattle.job.specs.Row.{Row, specOf}
+use Rattle.job.specs.Rules.{rowRules, sampleRules, jobAnswer}
+use Rattle.job.specs.Job.{jobOf}
+use Rattle.job.specs.Touches.{blockOf}
+use Rattle.single.specs.Written.{writtenAt}
+use Rattle.single.specs.Done.{painted, jobDone, singleAnswer, singleDone}
+
+module _ (W H : ℕ) (differences : List ℤ) (row : Row) (plane : List Float) where
+  abbrev n : ℕ
+  n = length differences
+
+  abbrev later : Answer
+  later = ladder (rowRules W H n row ++ sampleRules W (specOf row) plane)
+
+  abbrev Single : Answer → List Float → Type 0
+  Single r after = Promise (singleAnswer W H n row plane) (singleDone W H differences row plane) r after
+
+  pub no-plane : isPlane W H (length plane) ≡ false → Single BadPlane plane
+  unfolding singleAnswer singleDone isDone
+  no-plane e = refused _ plane (sym (ap (λ t. cond t (cond (eqb (length row) 16) later BadPlan) BadPlane) e)) refl
+
+  module _ (p : isPlane W H (length plane) ≡ true) where
+    pub no-row : eqb (length row) 16 ≡ false → Single BadPlan plane
+    unfolding singleAnswer singleDone isDone
+    no-row e = refused _ plane (sym (λ j. cond (p j) (cond (e j) later BadPlan) BadPlane)) refl
+
+    pub goes-on : eqb (length row) 16 ≡ true → (r : Answer) (after : List Float) → Promise (jobAnswer W H n row plane) (jobDone W H differences row plane) r after
+        → Single r after
+    unfolding singleAnswer singleDone jobAnswer jobDone
+    goes-on e r after d =
+        let same : cond (isPlane W H (length plane)) (cond (eqb (length row) 16) later BadPlan) BadPlane ≡ later =
+        λ j. cond (p j) (cond (e j) later BadPlan) BadPlane in
+        record {
+          answers = d .answers ∙ sym same;
+          holds = d .holds ∙ ap (λ a. lent a (painted W (blockOf row) (writtenAt W differences (jobOf row) plane) plane) plane) (sym same);
+        }

@@ -1,0 +1,74 @@
+// One job done (document 01, From samples to edges): its block is predicted from the plane and written with its differences. `run_job` takes any input.
+pub mod predict;
+pub mod work;
+pub mod write;
+
+use job::job::FoundJob;
+use job::job::Job;
+use numbers::answer::Answer;
+use numbers::word::Word;
+ghost use Prim.Native.Nat.{_*_, _≤_};
+ghost use lib.ListN.{length};
+ghost use Rattle.ladder.specs.Promise.{Promise};
+ghost use Rattle.single.specs.Granted.{Tested, readAnswer, readDone};
+ghost use Rattle.single.specs.Done.{singleAnswer, singleDone};
+
+// A job that 1 to 7 do not refuse, with room for its prediction: the edges have theirs here.
+fn edged(
+    plane: &mut [f32],
+    width: usize,
+    job: Job,
+    differences: &[i16],
+    out: &mut [f32],
+) -> Answer
+    requires { ⌜ Tested width (length (now differences)) (length (now plane)) job × (job .spec .b * job .spec .b ≤ length (now out)) ⌝ }
+    ensures { λ r. ⌜ Promise (readAnswer width job (now (plane .entry))) (readDone width (now (differences .entry)) job (now (plane .entry))) r (now (plane .exit)) ⌝ }
+{
+    let mut above = [0i32; 128];
+    let mut left = [0i32; 128];
+    work::do_read(plane, width, job, differences, &mut above, &mut left, out)
+}
+
+// The same, with a room that is not much larger than the block.
+fn alone(plane: &mut [f32], width: usize, job: Job, differences: &[i16]) -> Answer
+    requires { ⌜ Tested width (length (now differences)) (length (now plane)) job ⌝ }
+    ensures { λ r. ⌜ Promise (readAnswer width job (now (plane .entry))) (readDone width (now (differences .entry)) job (now (plane .entry))) r (now (plane .exit)) ⌝ }
+{
+    let s = job.spec;
+    if s.b <= 8 {
+        let mut out = [0.0f32; 64];
+        return edged(plane, width, job, differences, &mut out);
+    }
+    if s.b <= 16 {
+        let mut out = [0.0f32; 256];
+        return edged(plane, width, job, differences, &mut out);
+    }
+    if s.b <= 32 {
+        let mut out = [0.0f32; 1024];
+        return edged(plane, width, job, differences, &mut out);
+    }
+    let mut out = [0.0f32; 4096];
+    edged(plane, width, job, differences, &mut out)
+}
+
+// A single job: done, with its block written, or a refusal, with nothing written.
+pub fn run_job(
+    plane: &mut [f32],
+    width: usize,
+    height: usize,
+    row: &[u16],
+    differences: &[i16],
+) -> Answer
+    ensures { λ r. ⌜ Promise (singleAnswer width height (length (now (differences .entry))) (now (row .entry)) (now (plane .entry))) (singleDone width height (now (differences .entry)) (now (row .entry)) (now (plane .entry))) r (now (plane .exit)) ⌝ }
+{
+    if !edges::rules::is_plane(width, height, plane.len()) {
+        return Answer::BadPlane;
+    }
+    if row.len() != Word::COUNT {
+        return Answer::BadPlan;
+    }
+    match job::rules::read_row(width, height, differences.len(), row) {
+        FoundJob::Refused(answer) => answer,
+        FoundJob::Is(job) => alone(plane, width, job, differences),
+    }
+}
