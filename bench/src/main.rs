@@ -16,19 +16,27 @@ mod random;
 #[path = "../../oracle/src/refusals.rs"]
 #[allow(dead_code)]
 mod refusals;
+#[path = "../../oracle/src/plan/row.rs"]
+mod row;
 #[path = "../../oracle/src/spec.rs"]
 mod spec;
 #[path = "../../oracle/src/util.rs"]
 mod util;
 
 mod blocks;
+mod checks;
 mod derive_params;
 mod directional;
 mod edges;
+mod job;
+mod plan;
 mod predict_block;
 mod predictors;
+mod rows;
+mod runner;
 mod rust;
 mod timing;
+mod touches;
 mod ways;
 
 const SEED: u64 = 0x4C61_7463_6862_6E63;
@@ -39,6 +47,7 @@ fn main() {
     predictors::run(SEED);
     directional::run(SEED);
     edges::run(SEED);
+    plan::run(SEED);
     derive_params::run(SEED);
     predict_block::run(SEED);
 }

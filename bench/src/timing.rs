@@ -58,9 +58,13 @@ pub fn print_times(name: &str, times: &[f64]) {
 
 /// A row of ratios, Rust / ours, with their geometric mean.
 pub fn print_ratios(rust: &[f64], ours: &[f64]) {
-    let ratios: Vec<f64> = rust.iter().zip(ours).map(|(r, o)| r / o).collect();
+    print_named_ratios("    Rust / ours", &rust.iter().zip(ours).map(|(r, o)| r / o).collect::<Vec<_>>());
+}
+
+/// A row of ratios with their geometric mean.
+pub fn print_named_ratios(name: &str, ratios: &[f64]) {
     let cells: String = ratios.iter().map(|r| format!("{r:>10.2}")).collect();
-    println!("{:<30}{cells}{:>10.2}", "    Rust / ours", mean(&ratios));
+    println!("{name:<30}{cells}{:>10.2}", mean(ratios));
 }
 
 /// The geometric mean.

@@ -41,6 +41,17 @@ extern "C" {
         width: usize, height: usize, have_top: bool, have_left: bool, direction: u32, d: u32,
         p0: i32, p1: i32, p2: i32, out: *mut i32, out_len: usize,
     ) -> u32;
+
+    fn latch_run_job(
+        plane: *mut f32, plane_len: usize, width: usize, height: usize, row: *const u16, row_len: usize,
+        differences: *const i16, differences_len: usize,
+    ) -> u32;
+
+    fn latch_run(
+        plane: *mut f32, plane_len: usize, width: usize, height: usize, plan: *const u16, plan_len: usize,
+        order: *const u16, order_len: usize, differences: *const i16, differences_len: usize,
+        answers: *mut u16, answers_len: usize,
+    ) -> u32;
 }
 
 /// The name of a mode's C function.
@@ -118,6 +129,31 @@ pub fn predict_block(b: &Block, luma: &[i32], out: &mut [i32]) -> u32 {
         latch_predict_block(
             luma.as_ptr(), luma.len(), w.ref_width, w.ref_height, w.above_lines, w.left_lines,
             b.width, b.height, b.have_top, b.have_left, w.direction, w.d, p0, p1, p2, out.as_mut_ptr(), out.len(),
+        )
+    }
+}
+
+/// Calls `latch_run_job`.
+#[inline]
+pub fn run_job(plane: &mut [f32], width: usize, height: usize, row: &[u16], differences: &[i16]) -> u32 {
+    // The slices are live and do not overlap: `plane` is borrowed alone.
+    unsafe {
+        latch_run_job(
+            plane.as_mut_ptr(), plane.len(), width, height, row.as_ptr(), row.len(), differences.as_ptr(), differences.len(),
+        )
+    }
+}
+
+/// Calls `latch_run`.
+#[inline]
+pub fn run(
+    plane: &mut [f32], width: usize, height: usize, plan: &[u16], order: &[u16], differences: &[i16], answers: &mut [u16],
+) -> u32 {
+    // The slices are live and do not overlap: `plane` and `answers` are borrowed alone.
+    unsafe {
+        latch_run(
+            plane.as_mut_ptr(), plane.len(), width, height, plan.as_ptr(), plan.len(), order.as_ptr(), order.len(),
+            differences.as_ptr(), differences.len(), answers.as_mut_ptr(), answers.len(),
         )
     }
 }

@@ -22,7 +22,7 @@ pub fn plane_size(random: &mut Random) -> (usize, usize) {
 }
 
 /// A word anywhere in 16 bits, often a small one or one near the end, where a sum in 16 bits turns over.
-fn any_word(random: &mut Random) -> u16 {
+pub fn any_word(random: &mut Random) -> u16 {
     match random.below(3) {
         0 => random.word(),
         1 => random.word() % 20,

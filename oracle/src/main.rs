@@ -10,6 +10,7 @@ mod elimination;
 mod guard;
 mod inputs;
 mod original;
+mod plan;
 mod plane;
 mod predict_block;
 mod predictors;
@@ -35,6 +36,7 @@ fn main() {
     let windows = derive_params::compare(SEED, scale);
     let colour = predict_block::compare(SEED, scale);
     let solved = elimination::compare(SEED, scale);
+    let plans = plan::compare(SEED, scale);
     print!("oracle: {samples} predicted samples, {sets} edge sets, ");
-    println!("{windows} colour windows, {colour} colour samples, {solved} eliminations, 0 differences");
+    println!("{windows} colour windows, {colour} colour samples, {solved} eliminations, {plans} plans, 0 differences");
 }

@@ -34,12 +34,18 @@ pub fn direct(mode: Mode, b: u16, d: u16, above: &[i32], left: &[i32], corner: i
     0
 }
 
+/// Whether 20 takes a plane.
+pub fn is_plane(plane_len: usize, width: usize, height: usize) -> bool {
+    let (w, h) = (width as i128, height as i128);
+    w >= 4 && w <= 4096 && h >= 4 && h <= 4096 && plane_len as i128 == w * h
+}
+
 /// 20, 1, 2, 4, 5, 6: what `build_refs` answers before it looks at lists and samples.
 pub fn geometry(plane_len: usize, s: &Spec) -> u32 {
-    let (w, h) = (s.width as i128, s.height as i128);
-    if w < 4 || w > 4096 || h < 4 || h > 4096 || plane_len as i128 != w * h {
+    if !is_plane(plane_len, s.width, s.height) {
         return 20;
     }
+    let (w, h) = (s.width as i128, s.height as i128);
     if !is_size(s.b) {
         return 1;
     }

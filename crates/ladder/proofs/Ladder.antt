@@ -1,5 +1,5 @@
 -- A ladder that comes to done has all its rules kept; and rules that are tested after others. Assumes nothing.
-use mathlib.Core.Path.{_≡_, refl, sym, ap, subst}
+use mathlib.Core.Path.{_≡_, refl, sym, _∙_, ap, subst}
 use mathlib.Core.Bool.{Bool, true, false, cond, _&&_}
 use mathlib.Core.List.{List, [], _∷_, _++_}
 use Prim.Native.Nat.{ℕ}
@@ -55,3 +55,10 @@ ladder-append ((kept else refusal) ∷ rules) more t =
         → cond k (ladder (rules ++ more)) refusal ≡ cond (isDone (cond k (ladder rules) refusal)) (ladder more) (cond k (ladder rules) refusal)
     go true n later = later
     go false n later = sym (ap (λ b. cond b (ladder more) refusal) (not-zero (answerNumber refusal) n))
+
+-- ---- in a proof that follows the tests: a rule that is kept leaves the later ones, and one that is broken gives its answer
+pub kept : (a later refusal : Answer) (k : Bool) → k ≡ true → a ≡ cond k later refusal → a ≡ later
+kept a later refusal k e p = p ∙ ap (λ t. cond t later refusal) e
+
+pub broken : (a later refusal : Answer) (k : Bool) → k ≡ false → a ≡ cond k later refusal → refusal ≡ a
+broken a later refusal k e p = sym (p ∙ ap (λ t. cond t later refusal) e)

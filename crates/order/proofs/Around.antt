@@ -6,14 +6,15 @@ use Prim.Native.Nat.{ℕ, _+_, _-_, _≤_, min}
 use native.Mathlib.Omega.{arith}
 use Rattle.zint.proofs.Range.{and-both}
 use Rattle.edges.specs.declared.spec.IntraRefSpec.{IntraRefSpec}
-use Rattle.reorder.specs.Rect.{Rect, Wide, In, InAny}
+use Rattle.reorder.specs.Rect.{Wide, In, InAny}
 use Rattle.job.specs.Row.{Row, specOf}
 use Rattle.job.specs.Rules.{stands}
 use Rattle.job.specs.Rects.{runsOf, readsOf, writesOf}
 use Rattle.job.proofs.Stands.{Standing, standing}
 use Rattle.job.proofs.Runs.{rect-if}
 use Rattle.job.proofs.Exact.{writes-wide, reads-exact}
-use Rattle.order.specs.Hull.{one, past, squareOf, hullOf, onlyIf, blockFor, hullFor}
+use Rattle.job.specs.Touches.{blockAt}
+use Rattle.order.specs.Hull.{one, past, hullOf, onlyIf, blockFor, hullFor}
 
 -- a neighbour adds at most one row or column, and at most B samples past the block
 pub one-most : (b : Bool) → one b ≤ 1
@@ -55,7 +56,7 @@ module _ (W H : ℕ) (s : IntraRefSpec) (g : Standing W H s) (p : ℕ) where
       let q : one (s .«have_left») ≡ 1 = ap one b in
       record { row = i .row; col = i .col; top = omega arith; bottom = omega arith; left = omega arith; right = omega arith; place = i .place }
 
-  by-block : In W (squareOf s) p → In W (hullOf s) p
+  by-block : In W (blockAt s) p → In W (hullOf s) p
   by-block i =
       record { row = i .row; col = i .col; top = omega arith; bottom = omega arith; left = omega arith; right = omega arith; place = i .place }
 

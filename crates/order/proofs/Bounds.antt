@@ -6,7 +6,7 @@ use Prim.Native.Nat.{ℕ, _≤_}
 use lib.IntN.{ℤ}
 use Rattle.edges.specs.declared.spec.IntraRefSpec.{IntraRefSpec}
 use Rattle.reorder.specs.Rect.{Rect}
-use Rattle.job.specs.Row.{Row, rowAt, specOf}
+use Rattle.job.specs.Row.{Row, specOf}
 use Rattle.job.specs.Rules.{stands}
 use Rattle.job.proofs.Stands.{standing}
 use Rattle.order.specs.Hull.{onlyIf}

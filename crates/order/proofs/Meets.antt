@@ -10,7 +10,8 @@ use Rattle.job.specs.Row.{Row, specOf}
 use Rattle.job.specs.Rules.{stands}
 use Rattle.job.specs.Rects.{runsOf, readsOf, writesOf, clashOf}
 use Rattle.job.proofs.Exact.{reads-wide, writes-wide, reads-exact, writes-exact}
-use Rattle.order.specs.Hull.{squareOf, blockFor, hullFor}
+use Rattle.job.specs.Touches.{blockAt}
+use Rattle.order.specs.Hull.{blockFor, hullFor}
 use Rattle.order.proofs.Around.{hull-wide, block-wide, writes-in, block-in, reads-in}
 
 module _ (W H n : ℕ) where
@@ -61,11 +62,11 @@ module _ (W H n : ℕ) where
 
   -- two rows that do not: each one's block against what the other touches
   pub clash-is : (i j : Row) (s t : IntraRefSpec) → stands W H n i ≡ true → stands W H n j ≡ true → s ≡ specOf i → t ≡ specOf j → (there back : Bool)
-      → there ≡ (crossB (squareOf s ∷ []) (runsOf true t) || crossB (squareOf s ∷ []) (squareOf t ∷ []))
-      → back ≡ (crossB (squareOf t ∷ []) (runsOf true s) || crossB (squareOf t ∷ []) (squareOf s ∷ []))
+      → there ≡ (crossB (blockAt s ∷ []) (runsOf true t) || crossB (blockAt s ∷ []) (blockAt t ∷ []))
+      → back ≡ (crossB (blockAt t ∷ []) (runsOf true s) || crossB (blockAt t ∷ []) (blockAt s ∷ []))
       → (there || back) ≡ clashOf W H n i j
   unfolding clashOf clashB readsOf writesOf
   clash-is i j s t ei ej es et there back p q = rw (ei, ej) ((λ k. p k || q k) ∙ (λ k. hit (es k) (et k) || hit (et k) (es k)))
     where
       hit : IntraRefSpec → IntraRefSpec → Bool
-      hit a b = crossB (squareOf a ∷ []) (runsOf true b) || crossB (squareOf a ∷ []) (squareOf b ∷ [])
+      hit a b = crossB (blockAt a ∷ []) (runsOf true b) || crossB (blockAt a ∷ []) (blockAt b ∷ [])

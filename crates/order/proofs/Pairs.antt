@@ -4,7 +4,6 @@ use mathlib.Core.Path.{_≡_, sym}
 use mathlib.Core.Bool.{true, false}
 use mathlib.Core.List.{List}
 use Prim.Native.Nat.{ℕ, _*_, _<_}
-use native.Mathlib.Omega.{arith}
 use lib.ListN.{length, getD}
 use Rattle.reorder.specs.Test.{Decides, fails}
 use Rattle.reorder.specs.Jobs.{Jobs, Clash}
@@ -17,7 +16,8 @@ use Rattle.reorder.specs.Check.{kept-decides}
 use Rattle.job.specs.Row.{Row, rowAt}
 use Rattle.job.specs.Rects.{readsOf, writesOf, clashOf}
 use Rattle.job.proofs.Exact.{reads-wide, writes-wide}
-use Rattle.order.specs.Rules.{jobsIn, isKept}
+use Rattle.order.specs.Rules.{isKept}
+use Rattle.order.proofs.Entries.{jobs-in}
 
 module _ (W H n : ℕ) where
   -- "so clashes hang on rows and sizes alone": jobs that touch what the rows touch, and do nothing
@@ -29,12 +29,9 @@ module _ (W H n : ℕ) where
   exact i j = clash-decides W _ _ _ _ (reads-wide W H n i) (writes-wide W H n i) (reads-wide W H n j) (writes-wide W H n j)
 
 module _ (W H n : ℕ) (plan order : List ℕ) (long : length plan ≡ 16 * length order) (once : Once (length order) order) where
-  jobs-in : jobsIn plan ≡ length order
-  jobs-in = omega (arith, long)
-
   decides : Decides (isKept W H n plan order) (Kept (touching W H n) (rowAt plan) (length order) order)
   unfolding isKept
-  decides = rw jobs-in (kept-decides (touching W H n) (rowAt plan) _ (length order) (λ i j h k. exact W H n (rowAt plan i) (rowAt plan j)) order)
+  decides = rw (jobs-in plan order long) (kept-decides (touching W H n) (rowAt plan) _ (length order) (λ i j h k. exact W H n (rowAt plan i) (rowAt plan j)) order)
 
   pub kept-true : ((a b : ℕ) → a < b → b < length order
       → clashOf W H n (rowAt plan (getD order a 0)) (rowAt plan (getD order b 0)) ≡ true → getD order a 0 < getD order b 0)

@@ -1,6 +1,5 @@
 -- A row that does not fail 1 to 7 lies in the plane, so its bounds fit 15 bits; and rows as parts of the plan. Assumes nothing.
 use mathlib.Core.Path.{_≡_, ap}
-use mathlib.Core.Bool.{true}
 use mathlib.Core.List.{List}
 use Prim.Native.Nat.{ℕ, _+_, _-_, _*_, _≤_}
 use native.Mathlib.Omega.{arith}

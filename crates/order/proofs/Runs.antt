@@ -8,7 +8,7 @@ use borrow.Author.Tests.{le-ltb}
 use Rattle.edges.specs.declared.spec.IntraRefSpec.{IntraRefSpec}
 use Rattle.reorder.specs.Rect.{Rect, meetB, meetAnyB, crossB, cross-one}
 use Rattle.job.specs.Rects.{rectIf, runsOf}
-use Rattle.order.specs.Hull.{squareOf}
+use Rattle.job.specs.Touches.{blockAt}
 
 meet-none : (A : Rect) → meetB A (record { x = 0; y = 0; w = 0; h = 0 }) ≡ false
 unfolding meetB
@@ -46,12 +46,12 @@ cross-five : (A R S T U O : Rect)
 unfolding crossB meetAnyB
 cross-five A R S T U O = five (meetB A R) (meetB A S) (meetB A T) (meetB A U) (meetB A O)
 
-pub hits-is : (A B : Rect) (s t : IntraRefSpec) → A ≡ squareOf s → B ≡ squareOf t → (above left corner block : Bool)
+pub hits-is : (A B : Rect) (s t : IntraRefSpec) → A ≡ blockAt s → B ≡ blockAt t → (above left corner block : Bool)
     → above ≡ (meetB A (rectIf (t .«have_above») (t .x) (t .y - 1) (min (t .b) (t .«available_above»)) 1)
     || meetB A (rectIf (t .«have_above») (t .x + t .b) (t .y - 1) (min (t .«top_right») (t .b)) 1))
     → left ≡ (meetB A (rectIf (t .«have_left») (t .x - 1) (t .y) 1 (min (t .b) (t .«available_left»)))
     || meetB A (rectIf (t .«have_left») (t .x - 1) (t .y + t .b) 1 (min (t .«bottom_left») (t .b))))
     → corner ≡ meetB A (rectIf (t .«have_above» && t .«have_left») (t .x - 1) (t .y - 1) 1 1)
     → block ≡ meetB A B
-    → (((above || left) || corner) || block) ≡ (crossB (squareOf s ∷ []) (runsOf true t) || crossB (squareOf s ∷ []) (squareOf t ∷ []))
+    → (((above || left) || corner) || block) ≡ (crossB (blockAt s ∷ []) (runsOf true t) || crossB (blockAt s ∷ []) (blockAt t ∷ []))
 hits-is A B s t e f above left corner block p q u v = rw (← e, ← f, cross-five, cross-one) (λ j. ((p j || q j) || u j) || v j)

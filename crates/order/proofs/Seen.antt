@@ -1,26 +1,22 @@
 -- The flags of the numbers that stood before: a number's flag is set exactly when some entry before place b is that number. Assumes nothing.
-use mathlib.Core.Path.{_≡_, refl, sym, _∙_}
+use mathlib.Core.Path.{_≡_, sym, _∙_}
 use mathlib.Core.Logic.{_≢_}
 use mathlib.Core.Bool.{Bool, true, false, true≢false}
 use mathlib.Core.List.{List}
-use Prim.Native.Nat.{ℕ, zero, suc, _+_, _<_}
+use Prim.Native.Nat.{ℕ, _+_, _<_}
 use native.Mathlib.Decide.{ℕ-discrete}
 use native.Mathlib.Omega.{arith}
 use lib.ListN.{length, getD, set, replicate}
 use lib.Seq.{getD-set-same, getD-set-other}
+use Rattle.order.proofs.Lists.{all-same}
 
 pub record Seen (b : ℕ) (order : List ℕ) (seen : List Bool) : Type 0 where
   pub stood : (v : ℕ) → getD seen v false ≡ true → (a : ℕ) × (a < b) × (getD order a 0 ≡ v)
   pub noted : (a : ℕ) → a < b → getD seen (getD order a 0) false ≡ true
 
-none-set : (n v : ℕ) → getD (replicate n false) v false ≡ false
-none-set zero v = refl
-none-set (suc n) zero = refl
-none-set (suc n) (suc v) = none-set n v
-
 pub seen-none : (n : ℕ) (order : List ℕ) → Seen 0 order (replicate n false)
 seen-none n order = record {
-  stood = λ v e. absurd (true≢false (sym e ∙ none-set n v));
+  stood = λ v e. absurd (true≢false (sym e ∙ all-same false n v));
   noted = λ a h. absurd (omega arith);
 }
 

@@ -1,32 +1,27 @@
--- The walk over the order: what is known when k entries are passed, how it goes on, and what it comes to. Assumes nothing.
-use mathlib.Core.Path.{_≡_, refl, sym, _∙_, ap, subst}
-use mathlib.Core.Logic.{_≢_, _⊎_, inl, inr, ⊎-elim, ⊎-map}
-use mathlib.Core.Bool.{Bool, true, false, true≢false}
+-- The walk over the order: what is known when k entries are passed, and what it comes to. Assumes nothing.
+use mathlib.Core.Path.{_≡_}
+use mathlib.Core.Bool.{true}
 use mathlib.Core.List.{List}
-use Prim.Native.Nat.{ℕ, _+_, _*_, _≤_, _<_, max}
-use native.Mathlib.Decide.{ℕ-discrete, decLt}
+use Prim.Native.Nat.{ℕ, _+_, _≤_, _<_}
 use native.Mathlib.Omega.{arith}
 use lib.IntN.{ℤ, pos}
 use lib.ListN.{length, getD, replicate}
-use Rattle.reorder.specs.Entry.{place, place-lt}
-use Rattle.reorder.specs.Once.{Once, Fresh, fresh-of-once, entry-place}
+use Rattle.reorder.specs.Once.{Once, Fresh, fresh-of-once}
 use Rattle.reorder.specs.Rect.{Rect}
 use Rattle.reorder.specs.Check.{once-decides}
 use Rattle.job.specs.Row.{rowAt}
 use Rattle.job.specs.Rects.{clashOf}
 use Rattle.order.specs.Rules.{isKept}
-use Rattle.order.specs.Hull.{blockFor, hullFor}
-use Rattle.order.specs.Sides.{sidesOf, boundsAt, overlap, met, noted}
-use Rattle.order.specs.Window.{Touch, Searched, Walk}
-use Rattle.order.proofs.Lists.{all-same, noted-at, noted-other, overlap-of-meet, overlap-none}
-use Rattle.order.proofs.Meets.{clash-turned, clash-meets}
-use Rattle.order.proofs.Pairs.{kept-true, kept-false}
+use Rattle.order.specs.Sides.{sidesOf, blockSides, hullSides, boundsAt}
+use Rattle.order.specs.Window.{Walk}
+use Rattle.order.proofs.Lists.{all-same}
+use Rattle.order.proofs.Pairs.{kept-true}
 
-abbrev nothing : Rect
+abbrev pub nothing : Rect
 nothing = record { x = 0; y = 0; w = 0; h = 0 }
 
 -- the row that entry a names
-abbrev entry : List ℕ → ℕ → ℕ
+abbrev pub entry : List ℕ → ℕ → ℕ
 entry order a = getD order a 0
 
 -- k entries are passed. `top` is above them; their pairs are as they should be; their rows are noted, and no others
@@ -34,8 +29,8 @@ pub record Walked (W H n : ℕ) (plan order : List ℕ) (k top : ℕ) (blocks hu
   pub above : (a : ℕ) → a < k → entry order a < top
   pub within : top ≤ length order
   pub pairs : (a b : ℕ) → a < b → b < k → clashOf W H n (rowAt plan (entry order a)) (rowAt plan (entry order b)) ≡ true → entry order a < entry order b
-  pub ran : (a : ℕ) → a < k → (boundsAt blocks (entry order a) ≡ sidesOf (blockFor W H n (rowAt plan (entry order a))))
-      × (boundsAt hulls (entry order a) ≡ sidesOf (hullFor W H n (rowAt plan (entry order a))))
+  pub ran : (a : ℕ) → a < k → (boundsAt blocks (entry order a) ≡ blockSides W H n (rowAt plan (entry order a)))
+      × (boundsAt hulls (entry order a) ≡ hullSides W H n (rowAt plan (entry order a)))
   pub rest : (a : ℕ) → k ≤ a → a < length order → (boundsAt blocks (entry order a) ≡ sidesOf nothing) × (boundsAt hulls (entry order a) ≡ sidesOf nothing)
 
 pub walked-none : (W H n : ℕ) (plan order : List ℕ) → Walked W H n plan order 0 0 (replicate 4096 (pos 0)) (replicate 4096 (pos 0))
@@ -53,10 +48,10 @@ walked-none W H n plan order = record {
         λ i. record { x0 = z j i; x1 = z (1024 + j) i; y0 = z (2048 + j) i; y1 = z (3072 + j) i }
 
 module _ (W H n : ℕ) (plan order : List ℕ) (w : Walk W H plan order) where
-  once : Once (length order) order
+  pub once : Once (length order) order
   once = once-decides (length order) order .0 (w .once)
 
-  fresh : Fresh (length order) order
+  pub fresh : Fresh (length order) order
   fresh = fresh-of-once (length order) order once
 
   pub entry-below : (a : ℕ) → a < length order → entry order a < length order
@@ -64,80 +59,3 @@ module _ (W H n : ℕ) (plan order : List ℕ) (w : Walk W H plan order) where
 
   pub walked-all : (k top : ℕ) (blocks hulls : List ℤ) → length order ≤ k → Walked W H n plan order k top blocks hulls → true ≡ isKept W H n plan order
   walked-all k top blocks hulls h s = kept-true W H n plan order (w .whole) once (λ a b l m. s .pairs a b l (omega arith))
-
--- one entry more
-module _ (W H n : ℕ) (plan order : List ℕ) (w : Walk W H plan order) (k top : ℕ) (blocks hulls : List ℤ) (h : k < length order)
-    (s : Walked W H n plan order k top blocks hulls) (r : Bool)
-    (t : Searched W H n plan (entry order k) top blocks hulls (sidesOf (blockFor W H n (rowAt plan (entry order k)))) (sidesOf (hullFor W H n (rowAt plan (entry order k)))) r) where
-  -- a row that has not run touches nothing
-  untouched : (a : ℕ) → k ≤ a → a < length order → ¬ (Touch blocks hulls (sidesOf (blockFor W H n (rowAt plan (entry order k)))) (sidesOf (hullFor W H n (rowAt plan (entry order k)))) (entry order a))
-  untouched a l m (inl e) =
-      true≢false (sym e ∙ ap (λ u. overlap u (sidesOf (blockFor W H n (rowAt plan (entry order k))))) (s .rest a l m .1) ∙ overlap-none _)
-  untouched a l m (inr e) =
-      true≢false (sym e ∙ ap (λ u. overlap u (sidesOf (hullFor W H n (rowAt plan (entry order k))))) (s .rest a l m .0) ∙ overlap-none _)
-
-  -- a row after it that has run clashes: the pair is turned round
-  pub walked-found : r ≡ true → false ≡ isKept W H n plan order
-  walked-found e =
-      let f = t .found e in
-      let j = f .0 in
-      let c = once W H n plan order w .each j (omega (arith, f .2, s .within)) in
-      let a = place j order in
-      let at : entry order a ≡ j = entry-place order j (omega (arith, c)) in
-      let l : a < length order = place-lt j order (omega (arith, c)) in
-      elim (decLt a k) [
-        | yes q ↦ kept-false W H n plan order (w .whole) (once W H n plan order w) a k q h
-            (rw at (clash-turned W H n (rowAt plan j) (rowAt plan (entry order k)) ∙ f .4)) (omega (arith, at, f .1))
-        | no q ↦ absurd (untouched a (omega arith) l (rw at (f .3)))
-      ]
-
-  -- none does: of the pairs with this entry none is turned round
-  passed : r ≡ false → (a : ℕ) → a < k → clashOf W H n (rowAt plan (entry order a)) (rowAt plan (entry order k)) ≡ true → entry order a < entry order k
-  passed e a l c = elim (decLt (entry order a) (entry order k)) [
-    | yes q ↦ q
-    | no q ↦ elim (ℕ-discrete (entry order a) (entry order k)) [
-      | yes p ↦ absurd (fresh W H n plan order w .differ a k l h p)
-      | no p ↦
-          let d = clash-turned W H n (rowAt plan (entry order k)) (rowAt plan (entry order a)) ∙ c in
-          absurd (true≢false (sym d ∙ t .free e (entry order a) (omega arith) (s .above a l) (touch d)))
-    ]
-  ]
-    where
-      touch : clashOf W H n (rowAt plan (entry order k)) (rowAt plan (entry order a)) ≡ true
-          → Touch blocks hulls (sidesOf (blockFor W H n (rowAt plan (entry order k)))) (sidesOf (hullFor W H n (rowAt plan (entry order k)))) (entry order a)
-      touch d =
-          ⊎-map
-          (λ m. ap (λ u. overlap u (sidesOf (blockFor W H n (rowAt plan (entry order k))))) (s .ran a l .1) ∙ overlap-of-meet _ _ m)
-          (λ m. ap (λ u. overlap u (sidesOf (hullFor W H n (rowAt plan (entry order k))))) (s .ran a l .0) ∙ overlap-of-meet _ _ m)
-          (clash-meets W H n (rowAt plan (entry order k)) (rowAt plan (entry order a)) d)
-
-  pub walked-more : r ≡ false → length blocks ≡ 4096 → length hulls ≡ 4096 → Walked W H n plan order (k + 1) (max top (entry order k + 1))
-      (noted blocks (entry order k) (sidesOf (blockFor W H n (rowAt plan (entry order k))))) (noted hulls (entry order k) (sidesOf (hullFor W H n (rowAt plan (entry order k)))))
-  walked-more e lb lh = record {
-    above = λ a l. elim (ℕ-discrete a k) [ yes q ↦ omega (arith, ap (entry order) q) | no q ↦ omega (arith, s .above a (omega arith)) ];
-    within = omega (arith, s .within, below k h);
-    pairs = λ a b l m c. elim (ℕ-discrete b k) [ yes q ↦ rw q (passed e a (omega arith) (rw q at c)) | no q ↦ s .pairs a b l (omega arith) c ];
-    ran = λ a l. elim (ℕ-discrete a k) [
-      | yes q ↦ rw q (noted-at blocks _ _ lb (small k h), noted-at hulls _ _ lh (small k h))
-      | no q ↦ (
-        noted-other blocks _ _ _ (apart a (omega arith) (omega arith)) (small k h) (small a (omega arith)) ∙ s .ran a (omega arith) .0,
-        noted-other hulls _ _ _ (apart a (omega arith) (omega arith)) (small k h) (small a (omega arith)) ∙ s .ran a (omega arith) .1,
-      )
-    ];
-    rest = λ a l m. (
-      noted-other blocks _ _ _ (apart a m (omega arith)) (small k h) (small a m) ∙ s .rest a (omega arith) m .0,
-      noted-other hulls _ _ _ (apart a m (omega arith)) (small k h) (small a m) ∙ s .rest a (omega arith) m .1,
-    );
-  }
-    where
-      below : (a : ℕ) → a < length order → entry order a < length order
-      below a l = entry-below W H n plan order w a l
-
-      small : (a : ℕ) → a < length order → entry order a < 1024
-      small a l = omega (arith, below a l, w .few)
-
-      apart : (a : ℕ) → a < length order → a ≢ k → entry order a ≢ entry order k
-      apart a l q p = elim (decLt a k) [
-        | yes m ↦ fresh W H n plan order w .differ a k m h p
-        | no m ↦ fresh W H n plan order w .differ k a (omega arith) l (sym p)
-      ]

@@ -5,6 +5,7 @@ use Rattle.edges.specs.declared.spec.IntraRefSpec.{IntraRefSpec}
 use Rattle.reorder.specs.Rect.{Rect}
 use Rattle.job.specs.Row.{Row, specOf}
 use Rattle.job.specs.Rules.{stands}
+use Rattle.job.specs.Touches.{blockAt}
 use Rattle.job.specs.Rects.{rectIf}
 
 -- one row or column more if the neighbour is there
@@ -14,10 +15,6 @@ one there = cond there 1 0
 -- and the samples past the block, at most B
 abbrev pub past : Bool → ℕ → ℕ → ℕ
 past there more B = cond there (min more B) 0
-
--- the block of a job's words for the edges
-abbrev pub squareOf : IntraRefSpec → Rect
-squareOf s = record { x = s .x; y = s .y; w = s .b; h = s .b }
 
 -- the column at the left and the row above, the samples past the block to the right and below
 abbrev pub hullOf : IntraRefSpec → Rect
@@ -33,7 +30,7 @@ abbrev pub onlyIf : Bool → Rect → Rect
 onlyIf on R = rectIf on (R .x) (R .y) (R .w) (R .h)
 
 abbrev pub blockFor : ℕ → ℕ → ℕ → Row → Rect
-blockFor W H n row = onlyIf (stands W H n row) (squareOf (specOf row))
+blockFor W H n row = onlyIf (stands W H n row) (blockAt (specOf row))
 
 abbrev pub hullFor : ℕ → ℕ → ℕ → Row → Rect
 hullFor W H n row = onlyIf (stands W H n row) (hullOf (specOf row))

@@ -1,6 +1,5 @@
 -- The lists of bounds that an order is tested with: of 1,024 rows, the first columns, the columns past the last, the first rows, the rows past the
 -- last, in four parts of one list. A row that is not noted has zeros.
-use mathlib.Core.Path.{_≡_}
 use mathlib.Core.Bool.{Bool, _&&_}
 use mathlib.Core.List.{List}
 use Prim.Native.Nat.{ℕ, _+_}
@@ -8,11 +7,20 @@ use lib.IntN.{ℤ, pos}
 use lib.Signed.{ltZ}
 use lib.ListN.{getD, set}
 use Rattle.reorder.specs.Rect.{Rect}
+use Rattle.job.specs.Row.{Row}
+use Rattle.order.specs.Hull.{blockFor, hullFor}
 use Rattle.order.specs.declared.sides.Sides.{Sides}
 
 -- the bounds of a rectangle
 abbrev pub sidesOf : Rect → Sides
 sidesOf R = record { x0 = pos (R .x); x1 = pos (R .x + R .w); y0 = pos (R .y); y1 = pos (R .y + R .h) }
+
+-- those of a row's block, and of its hull
+abbrev pub blockSides : ℕ → ℕ → ℕ → Row → Sides
+blockSides W H n row = sidesOf (blockFor W H n row)
+
+abbrev pub hullSides : ℕ → ℕ → ℕ → Row → Sides
+hullSides W H n row = sidesOf (hullFor W H n row)
 
 -- row j of the lists
 abbrev pub boundsAt : List ℤ → ℕ → Sides

@@ -5,12 +5,11 @@ use mathlib.Core.Bool.{Bool, true, false}
 use mathlib.Core.List.{List}
 use Prim.Native.Nat.{ℕ, _+_, _*_, _≤_, _<_}
 use lib.IntN.{ℤ, pos}
-use lib.ListN.{length, getD, replicate}
+use lib.ListN.{length, replicate}
 use Rattle.reorder.specs.Check.{onceB}
 use Rattle.job.specs.Row.{rowAt}
 use Rattle.job.specs.Rects.{clashOf}
-use Rattle.order.specs.Hull.{blockFor, hullFor}
-use Rattle.order.specs.Sides.{sidesOf, met, noted}
+use Rattle.order.specs.Sides.{blockSides, hullSides, met, noted}
 use Rattle.order.specs.declared.sides.Sides.{Sides}
 
 -- the block b meets row j's hull, or the hull h its block
@@ -37,9 +36,9 @@ pub record Searched (W H n : ℕ) (plan : List ℕ) (i top : ℕ) (blocks hulls 
 
 -- and, if none does, row i is noted
 pub record Passed (W H n : ℕ) (plan : List ℕ) (i top : ℕ) (blocks hulls blocks′ hulls′ : List ℤ) (r : Bool) : Type 0 where
-  pub searched : Searched W H n plan i top blocks hulls (sidesOf (blockFor W H n (rowAt plan i))) (sidesOf (hullFor W H n (rowAt plan i))) r
-  pub blocks-are : r ≡ false → blocks′ ≡ noted blocks i (sidesOf (blockFor W H n (rowAt plan i)))
-  pub hulls-are : r ≡ false → hulls′ ≡ noted hulls i (sidesOf (hullFor W H n (rowAt plan i)))
+  pub searched : Searched W H n plan i top blocks hulls (blockSides W H n (rowAt plan i)) (hullSides W H n (rowAt plan i)) r
+  pub blocks-are : r ≡ false → blocks′ ≡ noted blocks i (blockSides W H n (rowAt plan i))
+  pub hulls-are : r ≡ false → hulls′ ≡ noted hulls i (hullSides W H n (rowAt plan i))
 
 -- what the walk asks: "plan not whole rows or above 1,024 jobs; order .. not one entry a job" does not hold, nor does refusal 22
 pub record Walk (W H : ℕ) (plan order : List ℕ) : Type 0 where

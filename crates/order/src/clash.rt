@@ -1,4 +1,5 @@
-// "one writes a sample that the other reads or writes" (document 01): the block of one job against the runs that the other reads, and its block.
+// "A job reads all these samples, in every mode; it writes its block." (document 01, From samples to edges) Two jobs clash if one writes a sample that
+// the other reads or writes: the block of one is held against the runs that the other reads, and against its block.
 use crate::rect;
 use crate::rect::Rect;
 use edges::spec::IntraRefSpec;
@@ -8,12 +9,12 @@ ghost use mathlib.Core.List.{[], _∷_};
 ghost use Prim.Native.Nat.{_+_, _-_, min};
 ghost use Rattle.reorder.specs.Rect.{meetB, crossB};
 ghost use Rattle.job.specs.Rects.{rectIf, runsOf};
-ghost use Rattle.order.specs.Hull.{squareOf};
+ghost use Rattle.job.specs.Touches.{blockAt};
 ghost use Rattle.order.specs.Rects.{rectOf, Small, Near};
 
 // The block.
 pub fn square(s: IntraRefSpec) -> Rect
-    ensures { λ r. ⌜ (rectOf r ≡ squareOf s) × Small r ⌝ }
+    ensures { λ r. ⌜ (rectOf r ≡ blockAt s) × Small r ⌝ }
 {
     Rect {
         x: s.x as usize,
@@ -80,7 +81,7 @@ fn meets_corner(a: Rect, s: IntraRefSpec) -> bool
 // Whether the block of s meets what t reads or writes.
 pub fn hits(s: IntraRefSpec, t: IntraRefSpec) -> bool
     requires { ⌜ Near t ⌝ }
-    ensures { λ r. ⌜ r ≡ (crossB (squareOf s ∷ []) (runsOf true t) || crossB (squareOf s ∷ []) (squareOf t ∷ [])) ⌝ }
+    ensures { λ r. ⌜ r ≡ (crossB (blockAt s ∷ []) (runsOf true t) || crossB (blockAt s ∷ []) (blockAt t ∷ [])) ⌝ }
 {
     let a = square(s);
     let above = meets_above(a, t);

@@ -7,7 +7,8 @@ use crate::sides::Sides;
 use edges::spec::IntraRefSpec;
 ghost use mathlib.Core.Path.{_≡_};
 ghost use mathlib.Core.Bool.{true};
-ghost use Rattle.order.specs.Hull.{one, past, squareOf, hullOf, onlyIf};
+ghost use Rattle.job.specs.Touches.{blockAt};
+ghost use Rattle.order.specs.Hull.{one, past, hullOf, onlyIf};
 ghost use Rattle.order.specs.Rects.{rectOf, Near, Placed};
 ghost use Rattle.order.specs.Sides.{sidesOf};
 
@@ -56,7 +57,7 @@ fn none() -> Sides
 // The bounds of the block.
 pub fn block_sides(on: bool, s: IntraRefSpec) -> Sides
     requires { ⌜ (on ≡ true → Placed s) ⌝ }
-    ensures { λ r. ⌜ r ≡ sidesOf (onlyIf on (squareOf s)) ⌝ }
+    ensures { λ r. ⌜ r ≡ sidesOf (onlyIf on (blockAt s)) ⌝ }
 {
     if !on {
         return none();

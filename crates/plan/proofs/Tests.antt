@@ -1,30 +1,18 @@
--- What the tests of a run have shown: a plan of whole rows, an order that may be walked, and the plan's own order, which passes. Assumes nothing.
-use mathlib.Core.Path.{_≡_, refl, sym, _∙_, ap, subst}
-use mathlib.Core.Bool.{Bool, true, false, cond, _&&_}
+-- What the tests of a run have shown: a plan of whole rows, and an order that may be walked. Assumes nothing.
+use mathlib.Core.Path.{_≡_}
+use mathlib.Core.Bool.{true, _&&_}
 use mathlib.Core.List.{List}
 use Prim.Native.Nat.{ℕ, _*_, _/_, _%_, _≤_}
 use native.Mathlib.Omega.{arith}
 use lib.Dec.{leb, eqb}
 use lib.ListN.{length}
 use borrow.Author.Tests.{eqb-true, leb-true}
-use Rattle.numbers.specs.declared.answer.Answer.{Answer}
 use Rattle.zint.proofs.Range.{and-both}
 use Rattle.edges.specs.Rules.{inRange, isPlane}
-use Rattle.reorder.specs.Check.{onceB, keptB}
-use Rattle.job.specs.Row.{rowAt}
-use Rattle.job.specs.Rects.{clashOf}
-use Rattle.order.specs.Rules.{jobsIn, isOnce, isKept}
-use Rattle.order.specs.Own.{isOwn}
+use Rattle.reorder.specs.Check.{onceB}
+use Rattle.order.specs.Rules.{jobsIn}
 use Rattle.order.specs.Window.{Walk}
-use Rattle.order.proofs.InPlace.{own-once, own-kept}
 use Rattle.plan.specs.Rules.{isPlan}
-
--- ---- the ladder: a rule that is kept leaves the later ones, and one that is broken gives its answer
-pub kept : (a later refusal : Answer) (k : Bool) → k ≡ true → a ≡ cond k later refusal → a ≡ later
-kept a later refusal k e p = p ∙ ap (λ t. cond t later refusal) e
-
-pub broken : (a later refusal : Answer) (k : Bool) → k ≡ false → a ≡ cond k later refusal → refusal ≡ a
-broken a later refusal k e p = sym (p ∙ ap (λ t. cond t later refusal) e)
 
 -- ---- the plane's sides
 pub sides : (W H samples : ℕ) → isPlane W H samples ≡ true → (W ≤ 4096) × (H ≤ 4096)
@@ -56,17 +44,3 @@ module _ (plan order : List ℕ) (answers : ℕ) (e : isPlan plan (length order)
 
   pub walk : (W H : ℕ) → (W ≤ 4096) × (H ≤ 4096) → onceB (length order) order ≡ true → Walk W H plan order
   walk W H s o = record { wide = s .0; high = s .1; whole = whole; few = few; once = o }
-
-  -- refusal 22, of as many jobs as the order has entries
-  pub once-is : onceB (length order) order ≡ isOnce plan order
-  unfolding isOnce
-  once-is = ap (λ n. onceB n order) entries
-
-  -- the plan's own order
-  module _ (own : isOwn order ≡ true) where
-    pub own-is-once : isOnce plan order ≡ true
-    own-is-once = sym once-is ∙ own-once order own
-
-    pub own-is-kept : (W H n : ℕ) → isKept W H n plan order ≡ true
-    unfolding isKept
-    own-is-kept W H n = ap (λ m. keptB (λ i j. clashOf W H n (rowAt plan i) (rowAt plan j)) m order) (sym entries) ∙ own-kept order own _

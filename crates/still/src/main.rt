@@ -1,59 +1,75 @@
-// Reads a finish-line still (finish.pgm, a plain greymap), finds for each 8 x 8 block which of the four predictors comes nearest to it, and prints
-// the map of their letters, P, S, V and H, and how far off the picture's blocks are by the nearest one.
-mod blocks;
+// Reads a finish-line still, a plain greymap: the one that ships, or the one that is named. Finds for each block the predictor that comes nearest,
+// makes of it a plan of jobs, rebuilds the picture from nothing by the plan in two orders, and prints what came of it.
+mod block;
+mod candidate;
+mod counts;
+mod fault;
+mod greymap;
+mod header;
+mod jobs;
+mod legend;
+mod nearest;
+mod order;
+mod page;
+mod plans;
+mod print;
+mod rebuild;
+mod room;
+mod show;
 
-use libc::STDOUT_FILENO;
-ghost use mathlib.Core.Path.{_≡_};
-ghost use lib.ListN.{length};
+use fault::Fault;
+use greymap::FoundMap;
 
-// Room for a picture.
-fn picture() -> [f32; 4096]
-    ensures { λ r. ⌜ 4096 ≡ length r ⌝ }
-{
-    [0.0; 4096]
-}
-
-// The greymap's samples; its sides, or 0 by 0 where it is none that fits.
-fn read_still(s: &[u8], plane: &mut [f32]) -> blocks::Sides {
-    let start = text::next_line(s, 0);
-    let w = text::number(s, start);
-    let h = text::number(s, w.next);
-    let most = text::number(s, h.next);
-    let sides = blocks::Sides {
-        width: (w.value % 65) as usize,
-        height: (h.value % 65) as usize,
-    };
-    let n = sides.area();
-    let from = 0;
-    if n <= plane.len() {
-        text::whole_samples(s, most.next, &mut plane[from..n]);
-        sides
-    } else {
-        blocks::Sides {
-            width: 0,
-            height: 0,
-        }
+// The file's greymap, its samples in the plane's first places.
+fn load(file: i32, plane: &mut [f32]) -> FoundMap {
+    let mut buffer = io::large_buffer();
+    let n = io::read_full(file, &mut buffer);
+    if n == 0 {
+        return FoundMap::Not(Fault::Empty);
     }
+    if n == 65536 {
+        return FoundMap::Not(Fault::TooLong);
+    }
+    greymap::read(&buffer[..n], plane)
 }
 
-fn show(s: &[u8], plane: &mut [f32]) {
-    let sides = read_still(s, plane);
-    let n = sides.area();
-    let from = 0;
-    if n <= plane.len() {
-        blocks::print_map(&plane[from..n], sides);
+fn show_file(name: &[u8], plane: &mut [f32]) {
+    let file = os::open_read(name);
+    if file < 0 {
+        os::fail(name);
+        return;
+    }
+    let found = load(file, plane);
+    libc::close(file);
+    match found {
+        FoundMap::Is(g) => {
+            let from = 0;
+            let n = g.area();
+            if n <= plane.len() {
+                show::show(name, &plane[from..n], g);
+            } else {
+                fault::tell(name, Fault::NoRoom);
+            }
+        }
+        FoundMap::Not(fault) => fault::tell(name, fault),
     }
 }
 
 fn main() {
-    let mut buffer = io::large_buffer();
-    let file = os::open_read(b"finish.pgm");
-    if file < 0 {
-        os::fail(b"finish.pgm");
+    let mut plane = room::picture();
+    if os::arg_count() < 2 {
+        show_file(b"finish.pgm", &mut plane);
         return;
     }
-    let n = io::read_full(file, &mut buffer);
-    libc::close(file);
-    let mut plane = picture();
-    show(&buffer[..n], &mut plane);
+    if 2 < os::arg_count() {
+        fault::tell_usage();
+        return;
+    }
+    let mut buffer = io::buffer();
+    let n = os::arg(1, &mut buffer);
+    if os::errno() != 0 {
+        os::fail(b"still");
+        return;
+    }
+    show_file(&buffer[..n], &mut plane);
 }

@@ -1,22 +1,14 @@
 // Text of decimal numbers, with spaces and line ends between them, for the programs.
+pub mod series;
+pub mod word;
+
+use word::past_blanks;
 ghost use Prim.Native.Nat.{_<_};
 ghost use lib.ListN.{length};
 
 pub struct Token {
     pub value: u32,
     pub next: usize,
-}
-
-// The first place from `at` on where no space and no line end stands.
-fn past_blanks(s: &[u8], at: usize) -> usize {
-    let mut i = at;
-    while i < s.len() {
-        if b' ' < s[i] {
-            return i;
-        }
-        i += 1;
-    }
-    i
 }
 
 // The number at a place, and the place after it.

@@ -3,7 +3,8 @@ use borrow.Author.Needs.{needs}
 use borrow.Author.Tests.{not-true, not-false}
 use mathlib.Core.Path.{sym, _∙_}
 use Rattle.numbers.proofs.Agree.{size-no, depth-no}
-use Rattle.edges.proofs.rules.refused.Proof.Passed.{kept, broken, none, one, two, three, four, five, six, seven, place, max-is}
+use Rattle.ladder.proofs.Ladder.{broken, kept}
+use Rattle.edges.proofs.rules.refused.Proof.Passed.{none, one, two, three, four, five, six, seven, place, max-is}
 use Rattle.edges.proofs.rules.refused.Statement.{statement}
 use Rattle.edges.proofs.rules.refused.Tie as tie
 mod Passed

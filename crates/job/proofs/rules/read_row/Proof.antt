@@ -13,7 +13,8 @@ use Rattle.job.specs.Mode.{isMode, isFound}
 use Rattle.job.specs.Rules.{rowAnswer}
 use Rattle.job.specs.Job.{modeIn}
 use Rattle.job.proofs.Read.{reads-no, reads-yes}
-use Rattle.job.proofs.rules.read_row.Proof.Passed.{t, none, by-words, broken, one, two, three, four, five, six, seven, w1, w2, w3, w6, c2, mode-is, max-is}
+use Rattle.ladder.proofs.Ladder.{broken}
+use Rattle.job.proofs.rules.read_row.Proof.Passed.{t, none, by-words, one, two, three, four, five, six, seven, w1, w2, w3, w6, c2, mode-is, max-is}
 use Rattle.job.proofs.rules.read_row.Statement.{statement}
 use Rattle.job.proofs.rules.read_row.Tie as tie
 mod Passed

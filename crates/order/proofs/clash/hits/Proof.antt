@@ -3,13 +3,6 @@ use Rattle.order.proofs.Runs.{hits-is}
 use borrow.Author.Needs.{needs}
 use Rattle.order.proofs.clash.hits.Statement.{statement}
 use Rattle.order.proofs.clash.hits.Tie as tie
-use Rattle.order.proofs.clash.hits.Reads as reads
-use Rattle.order.proofs.clash.hits.Lts as lts
-use Rattle.order.proofs.clash.meets_above.Reads as meets-above-reads
-use Rattle.order.proofs.clash.meets_corner.Reads as meets-corner-reads
-use Rattle.order.proofs.clash.meets_left.Reads as meets-left-reads
-use Rattle.order.proofs.clash.square.Reads as square-reads
-use Rattle.order.proofs.rect.meet.Reads as meet-reads
 
 square-requires : tie.Need-square-requires
 square-requires c κs = search needs

@@ -6,10 +6,6 @@ use Rattle.order.proofs.Runs.{both-off, meet-on}
 use borrow.Author.Needs.{needs}
 use Rattle.order.proofs.clash.meets_above.Statement.{statement}
 use Rattle.order.proofs.clash.meets_above.Tie as tie
-use Rattle.order.proofs.clash.meets_above.Reads as reads
-use Rattle.order.proofs.clash.meets_above.Lts as lts
-use Rattle.order.proofs.rect.meet.Reads as meet-reads
-use Rattle.pick.proofs.least.Reads as least-reads
 
 returns : tie.Need-returns
 returns c = let s = c .before .before .args .s in both-off _ (s .«have_above») (not-true (s .«have_above») (c .if1 .taken)) _ _ _ _ _ _ _ _

@@ -7,9 +7,6 @@ use Rattle.order.proofs.Runs.{meet-off, meet-on, and-no, no-and}
 use borrow.Author.Needs.{needs}
 use Rattle.order.proofs.clash.meets_corner.Statement.{statement}
 use Rattle.order.proofs.clash.meets_corner.Tie as tie
-use Rattle.order.proofs.clash.meets_corner.Reads as reads
-use Rattle.order.proofs.clash.meets_corner.Lts as lts
-use Rattle.order.proofs.rect.meet.Reads as meet-reads
 
 returns : tie.Need-returns
 returns c = let s = c .before .before .args .s in meet-off _ (s .«have_above» && s .«have_left») (and-no (s .«have_above») _ (not-true (s .«have_above») (c .if1 .taken))) _ _ _ _

@@ -2,23 +2,18 @@
 use native.Mathlib.Omega.{arith}
 use mathlib.Core.Path.{sym, _∙_, ap}
 use borrow.Author.Tests.{not-true, not-false}
-use Rattle.reorder.specs.Rect.{Rect}
-use Rattle.order.specs.Hull.{squareOf, onlyIf}
+use Rattle.job.specs.Touches.{blockAt}
+use Rattle.order.specs.Hull.{onlyIf}
 use Rattle.order.specs.Sides.{sidesOf}
 use borrow.Author.Needs.{needs}
 use Rattle.order.proofs.hull.block_sides.Statement.{statement}
 use Rattle.order.proofs.hull.block_sides.Tie as tie
-use Rattle.order.proofs.hull.block_sides.Reads as reads
-use Rattle.order.proofs.hull.block_sides.Lts as lts
-use Rattle.order.proofs.clash.square.Reads as square-reads
-use Rattle.order.proofs.hull.none.Reads as none-reads
-use Rattle.order.proofs.sides.sides_of.Reads as sides-of-reads
 
 none-requires : tie.Need-none-requires
 none-requires c κs = search needs
 
 returns : tie.Need-returns
-returns c = let a = c .before .before .args in c .none .ensures ∙ ap (λ b. sidesOf (onlyIf b (squareOf (a .s)))) (sym (not-true (a .on) (c .before .if1 .taken)))
+returns c = let a = c .before .before .args in c .none .ensures ∙ ap (λ b. sidesOf (onlyIf b (blockAt (a .s)))) (sym (not-true (a .on) (c .before .if1 .taken)))
 
 square-requires : tie.Need-square-requires
 square-requires c κs = search needs
@@ -33,7 +28,7 @@ sides-of-requires c κs =
 returns-2 : tie.Need-returns-2
 returns-2 c =
     let a = c .before .before .before .args in
-    c .sides-of .ensures ∙ ap sidesOf (c .before .square .ensures .0) ∙ ap (λ b. sidesOf (onlyIf b (squareOf (a .s)))) (sym (not-false (a .on) (c .before .before .if1 .left)))
+    c .sides-of .ensures ∙ ap sidesOf (c .before .square .ensures .0) ∙ ap (λ b. sidesOf (onlyIf b (blockAt (a .s)))) (sym (not-false (a .on) (c .before .before .if1 .left)))
 
 pub block-sides-spec : {M : Type 1} → statement M
 block-sides-spec =

@@ -5,10 +5,6 @@ use Rattle.order.proofs.Around.{one-most, past-most, one-near}
 use borrow.Author.Needs.{needs}
 use Rattle.order.proofs.hull.hull.Statement.{statement}
 use Rattle.order.proofs.hull.hull.Tie as tie
-use Rattle.order.proofs.hull.hull.Reads as reads
-use Rattle.order.proofs.hull.hull.Lts as lts
-use Rattle.order.proofs.hull.one.Reads as one-reads
-use Rattle.order.proofs.hull.past.Reads as past-reads
 
 cast-b : tie.Need-cast-b
 cast-b c = search needs

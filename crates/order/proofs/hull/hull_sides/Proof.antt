@@ -2,17 +2,11 @@
 use native.Mathlib.Omega.{arith}
 use mathlib.Core.Path.{sym, _∙_, ap}
 use borrow.Author.Tests.{not-true, not-false}
-use Rattle.reorder.specs.Rect.{Rect}
 use Rattle.order.specs.Hull.{hullOf, onlyIf}
 use Rattle.order.specs.Sides.{sidesOf}
 use borrow.Author.Needs.{needs}
 use Rattle.order.proofs.hull.hull_sides.Statement.{statement}
 use Rattle.order.proofs.hull.hull_sides.Tie as tie
-use Rattle.order.proofs.hull.hull_sides.Reads as reads
-use Rattle.order.proofs.hull.hull_sides.Lts as lts
-use Rattle.order.proofs.hull.hull.Reads as hull-reads
-use Rattle.order.proofs.hull.none.Reads as none-reads
-use Rattle.order.proofs.sides.sides_of.Reads as sides-of-reads
 
 none-requires : tie.Need-none-requires
 none-requires c κs = search needs

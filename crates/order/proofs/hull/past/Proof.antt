@@ -4,9 +4,6 @@ use Rattle.order.specs.Hull.{past}
 use borrow.Author.Needs.{needs}
 use Rattle.order.proofs.hull.past.Statement.{statement}
 use Rattle.order.proofs.hull.past.Tie as tie
-use Rattle.order.proofs.hull.past.Reads as reads
-use Rattle.order.proofs.hull.past.Lts as lts
-use Rattle.pick.proofs.least.Reads as least-reads
 
 least-requires : tie.Need-least-requires
 least-requires c κs = search needs

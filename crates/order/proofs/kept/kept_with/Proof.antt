@@ -5,13 +5,10 @@ use Prim.Native.Nat.{_≤_, _-_}
 use lib.IntN.{pos}
 use lib.ListN.{length, length-replicate}
 use Rattle.order.proofs.Lists.{length-noted}
-use Rattle.order.proofs.Walk.{Walked, walked-none, walked-found, walked-more, walked-all, entry-below}
+use Rattle.order.proofs.Walk.{Walked, walked-none, walked-all, entry-below}
+use Rattle.order.proofs.Step.{walked-found, walked-more}
 use Rattle.order.proofs.kept.kept_with.Statement.{statement}
 use Rattle.order.proofs.kept.kept_with.Tie as tie
-use Rattle.order.proofs.kept.kept_with.Reads as reads
-use Rattle.order.proofs.kept.kept_with.Lts as lts
-use Rattle.order.proofs.kept.pass.Reads as pass-reads
-use Rattle.order.proofs.rect.most.Reads as most-reads
 
 abbrev Inv-loop : tie.InvT-loop
 Inv-loop width height n plan order blocks₀ hulls₀ top₀ k₀ blocks hulls top k = (k ≤ length order) × (length blocks ≡ 4096) × (length hulls ≡ 4096) × Walked width height n plan order k top blocks hulls
@@ -21,8 +18,7 @@ abbrev μ-loop : tie.MeasureT-loop
 
 loop-holds : tie.Need-loop-holds Inv-loop μ-loop
 loop-holds c =
-    let s = c .before .before in
-    (
+    let s = c .before .before in (
       omega arith,
       ap length (s .pre .1) ∙ length-replicate 4096 (pos 0),
       ap length (s .pre .2) ∙ length-replicate 4096 (pos 0),
@@ -42,14 +38,17 @@ pass-requires : tie.Need-pass-requires Inv-loop μ-loop
 pass-requires c κs =
     let l = c .before .before .before .before in
     let w = l .before .before .before .pre .0 in
-    let e = entry-below _ _ (l .before .before .before .args .n) _ _ w (l .loop .k) (c .before .before .before .loop-test .taken) in
-    (w .wide, w .high, record {
-      row = omega (arith, w .whole, e);
-      rows = omega (arith, w .whole, l .loop .inv .3 .within);
-      few = omega (arith, w .whole, w .few);
-      blocks-long = l .loop .inv .1;
-      hulls-long = l .loop .inv .2;
-    })
+    let e = entry-below _ _ (l .before .before .before .args .n) _ _ w (l .loop .k) (c .before .before .before .loop-test .taken) in (
+      w .wide,
+      w .high,
+      record {
+        row = omega (arith, w .whole, e);
+        rows = omega (arith, w .whole, l .loop .inv .3 .within);
+        few = omega (arith, w .whole, w .few);
+        blocks-long = l .loop .inv .1;
+        hulls-long = l .loop .inv .2;
+      },
+    )
 
 same-length : tie.Need-same-length Inv-loop μ-loop
 same-length c =
@@ -85,8 +84,7 @@ loop-again c =
     let l = c .before .before .before .before .before .before .before .before .before in
     let s = l .before .before .before in
     let p = c .before .before .before .before .pass .ensures in
-    let e = c .before .if1 .left in
-    (
+    let e = c .before .if1 .left in (
       omega arith,
       ap length (p .blocks-are e) ∙ length-noted _ _ _ ∙ l .loop .inv .1,
       ap length (p .hulls-are e) ∙ length-noted _ _ _ ∙ l .loop .inv .2,

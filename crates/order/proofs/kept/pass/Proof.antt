@@ -1,37 +1,33 @@
 -- `pass` meets its contract: the bounds are those of the row. Assumes nothing.
 use native.Mathlib.Omega.{arith}
-use mathlib.Core.Path.{_≡_, sym, _∙_, ap}
+use mathlib.Core.Path.{_≡_, _∙_, ap}
 use mathlib.Core.Bool.{true≢false}
 use Rattle.job.specs.Row.{rowAt}
-use Rattle.order.specs.Hull.{squareOf, hullOf, blockFor, hullFor}
-use Rattle.order.specs.Sides.{sidesOf, noted}
+use Rattle.job.specs.Touches.{blockAt}
+use Rattle.order.specs.Hull.{hullOf}
+use Rattle.order.specs.Sides.{blockSides, hullSides, noted}
 use Rattle.order.proofs.Placed.{row-is}
 use Rattle.order.proofs.Bounds.{placed-if, sides-is, searched-as}
 use borrow.Author.Needs.{needs}
 use Rattle.order.proofs.kept.pass.Statement.{statement}
 use Rattle.order.proofs.kept.pass.Tie as tie
-use Rattle.order.proofs.kept.pass.Reads as reads
-use Rattle.order.proofs.kept.pass.Lts as lts
-use Rattle.job.proofs.row.spec_of.Reads as spec-of-reads
-use Rattle.order.proofs.hull.block_sides.Reads as block-sides-reads
-use Rattle.order.proofs.hull.hull_sides.Reads as hull-sides-reads
-use Rattle.order.proofs.pair.stands.Reads as stands-reads
-use Rattle.order.proofs.sides.note.Reads as note-reads
-use Rattle.order.proofs.window.search.Reads as search-reads
 
 -- the bounds b and h are those of row i
 module _ (c : tie.After-hull-sides) where
-  block-is : c .before .block-sides .result ≡ sidesOf (blockFor (c .before .before .before .before .before .before .args .width) (c .before .before .before .before .before .before .args .height) (c .before .before .before .before .before .before .args .n) (rowAt (c .before .before .before .before .before .before .args .plan .now) (c .before .before .before .before .before .before .args .i)))
+  abbrev s : tie.Start
+  s = c .before .before .before .before .before .before
+
+  block-is : c .before .block-sides .result ≡ blockSides (s .args .width) (s .args .height) (s .args .n) (rowAt (s .args .plan .now) (s .args .i))
   block-is =
       let k = c .before .before in
-      let a = k .before .before .before .before .args in
-      sides-is (a .width) (a .height) (a .n) _ _ _ (k .before .stands .ensures) (k .spec-of .ensures) _ (row-is (a .plan .now) (a .i)) squareOf _ (c .before .block-sides .ensures)
+      sides-is (s .args .width) (s .args .height) (s .args .n) _ _ _ (k .before .stands .ensures) (k .spec-of .ensures) _
+      (row-is (s .args .plan .now) (s .args .i)) blockAt _ (c .before .block-sides .ensures)
 
-  hull-is : c .hull-sides .result ≡ sidesOf (hullFor (c .before .before .before .before .before .before .args .width) (c .before .before .before .before .before .before .args .height) (c .before .before .before .before .before .before .args .n) (rowAt (c .before .before .before .before .before .before .args .plan .now) (c .before .before .before .before .before .before .args .i)))
+  hull-is : c .hull-sides .result ≡ hullSides (s .args .width) (s .args .height) (s .args .n) (rowAt (s .args .plan .now) (s .args .i))
   hull-is =
       let k = c .before .before in
-      let a = k .before .before .before .before .args in
-      sides-is (a .width) (a .height) (a .n) _ _ _ (k .before .stands .ensures) (k .spec-of .ensures) _ (row-is (a .plan .now) (a .i)) hullOf _ (c .hull-sides .ensures)
+      sides-is (s .args .width) (s .args .height) (s .args .n) _ _ _ (k .before .stands .ensures) (k .spec-of .ensures) _
+      (row-is (s .args .plan .now) (s .args .i)) hullOf _ (c .hull-sides .ensures)
 
 mul-o : tie.Need-mul-o
 mul-o c = search needs
@@ -89,7 +85,9 @@ note-requires : tie.Need-note-requires
 note-requires c κs = search needs
 
 note-requires-2 : tie.Need-note-requires-2
-note-requires-2 c κs = let s = c .before .before .before .before .before .before .before .before .before .before .before .before .before .before in (s .pre .2 .hulls-long, omega (arith, s .pre .2 .row, s .pre .2 .few))
+note-requires-2 c κs =
+    let e = c .before .before .before .before .before .before .before .before .before .before .before .before .before .before in
+    (e .pre .2 .hulls-long, omega (arith, e .pre .2 .row, e .pre .2 .few))
 
 same-length-3 : tie.Need-same-length-3
 same-length-3 c = search needs

@@ -1,9 +1,9 @@
 -- `once_with` meets its contract: b entries are passed, which are below n and differ, and their flags are set. Assumes nothing.
 use mathlib.Core.Path.{_≡_, refl, sym, _∙_, ap}
-use Prim.Native.Nat.{ℕ, _≤_, _<_, _-_}
+use Prim.Native.Nat.{_≤_, _-_}
 use native.Mathlib.Omega.{arith}
 use borrow.Author.Needs.{needs}
-use lib.ListN.{length, getD, length-set, length-replicate}
+use lib.ListN.{length, length-set, length-replicate}
 use mathlib.Core.Bool.{false}
 use Rattle.reorder.specs.Test.{fails}
 use Rattle.reorder.specs.Once.{FreshTo, fresh-none, fresh-more, once-of-passed, not-once-high, not-once-twice}
@@ -11,8 +11,6 @@ use Rattle.reorder.specs.Check.{once-decides}
 use Rattle.order.proofs.Seen.{Seen, seen-none, seen-not, seen-more}
 use Rattle.order.proofs.once.once_with.Statement.{statement}
 use Rattle.order.proofs.once.once_with.Tie as tie
-use Rattle.order.proofs.once.once_with.Reads as reads
-use Rattle.order.proofs.once.once_with.Lts as lts
 
 abbrev Inv-loop : tie.InvT-loop
 Inv-loop order seen₀ n b₀ seen b = (b ≤ n) × (length seen ≡ 1024) × FreshTo n b order × Seen b order seen
@@ -61,8 +59,7 @@ loop-less c = omega arith
 
 loop-again : tie.Need-loop-again Inv-loop μ-loop
 loop-again c =
-    let k = c .before .before .before .before .before .loop in
-    (
+    let k = c .before .before .before .before .before .loop in (
       omega arith,
       simp length-set (k .inv .1),
       fresh-more _ _ _ (k .inv .2) (omega arith) (seen-not (k .b) _ (k .seen) (k .inv .3) (c .if2 .left)),

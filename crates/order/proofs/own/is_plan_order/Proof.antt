@@ -9,8 +9,6 @@ use Rattle.reorder.specs.Test.{fails}
 use Rattle.order.proofs.InPlace.{own-decides}
 use Rattle.order.proofs.own.is_plan_order.Statement.{statement}
 use Rattle.order.proofs.own.is_plan_order.Tie as tie
-use Rattle.order.proofs.own.is_plan_order.Reads as reads
-use Rattle.order.proofs.own.is_plan_order.Lts as lts
 
 abbrev Inv-loop : tie.InvT-loop
 Inv-loop order k₀ k = (k ≤ length order) × ((a : ℕ) → a < k → getD order a 0 ≡ a)

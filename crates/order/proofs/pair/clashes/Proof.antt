@@ -10,18 +10,18 @@ use Rattle.order.proofs.Meets.{first-off, second-off, clash-is}
 use borrow.Author.Needs.{needs}
 use Rattle.order.proofs.pair.clashes.Statement.{statement}
 use Rattle.order.proofs.pair.clashes.Tie as tie
-use Rattle.order.proofs.pair.clashes.Reads as reads
-use Rattle.order.proofs.pair.clashes.Lts as lts
-use Rattle.job.proofs.row.spec_of.Reads as spec-of-reads
-use Rattle.order.proofs.clash.hits.Reads as hits-reads
-use Rattle.order.proofs.pair.stands.Reads as stands-reads
 
--- the second row, the first: they do not fail 1 to 7
-second : (c : tie.Else2) → stands (c .before .before .before .before .before .before .args .width) (c .before .before .before .before .before .before .args .height) (c .before .before .before .before .before .before .args .n) (c .before .before .before .before .before .before .args .two .now) ≡ true
-second c = let t = c .before .stands2 in sym (t .ensures) ∙ not-false (t .result) (c .if2 .left)
+-- the two rows do not fail 1 to 7
+module _ (c : tie.Else1) where
+  abbrev s : tie.Start
+  s = c .before .before .before .before
 
-first : (c : tie.Else1) → stands (c .before .before .before .before .args .width) (c .before .before .before .before .args .height) (c .before .before .before .before .args .n) (c .before .before .before .before .args .one .now) ≡ true
-first c = let t = c .before .stands in sym (t .ensures) ∙ not-false (t .result) (c .if1 .left)
+  first : stands (s .args .width) (s .args .height) (s .args .n) (s .args .one .now) ≡ true
+  first = let t = c .before .stands in sym (t .ensures) ∙ not-false (t .result) (c .if1 .left)
+
+module _ (c : tie.Else2) where
+  second : stands (s (c .before .before) .args .width) (s (c .before .before) .args .height) (s (c .before .before) .args .n) (s (c .before .before) .args .two .now) ≡ true
+  second = let t = c .before .stands2 in sym (t .ensures) ∙ not-false (t .result) (c .if2 .left)
 
 stands-requires : tie.Need-stands-requires
 stands-requires c κs = search needs

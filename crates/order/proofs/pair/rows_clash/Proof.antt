@@ -5,9 +5,6 @@ use Rattle.order.proofs.Placed.{row-is}
 use borrow.Author.Needs.{needs}
 use Rattle.order.proofs.pair.rows_clash.Statement.{statement}
 use Rattle.order.proofs.pair.rows_clash.Tie as tie
-use Rattle.order.proofs.pair.rows_clash.Reads as reads
-use Rattle.order.proofs.pair.rows_clash.Lts as lts
-use Rattle.order.proofs.pair.clashes.Reads as clashes-reads
 
 mul-a : tie.Need-mul-a
 mul-a c = search needs

@@ -5,10 +5,6 @@ use Rattle.job.specs.Rules.{stands}
 use borrow.Author.Needs.{needs}
 use Rattle.order.proofs.pair.stands.Statement.{statement}
 use Rattle.order.proofs.pair.stands.Tie as tie
-use Rattle.order.proofs.pair.stands.Reads as reads
-use Rattle.order.proofs.pair.stands.Lts as lts
-use Rattle.job.proofs.rules.row_answer.Reads as row-answer-reads
-use Rattle.numbers.proofs.answer.Answer.is_done.Reads as is-done-reads
 
 row-answer-requires : tie.Need-row-answer-requires
 row-answer-requires c κs = search needs

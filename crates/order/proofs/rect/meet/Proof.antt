@@ -3,10 +3,6 @@ use Rattle.reorder.specs.Rect.{meet-then, meet-else}
 use borrow.Author.Needs.{needs}
 use Rattle.order.proofs.rect.meet.Statement.{statement}
 use Rattle.order.proofs.rect.meet.Tie as tie
-use Rattle.order.proofs.rect.meet.Reads as reads
-use Rattle.order.proofs.rect.meet.Lts as lts
-use Rattle.order.proofs.rect.most.Reads as most-reads
-use Rattle.pick.proofs.least.Reads as least-reads
 
 most-requires : tie.Need-most-requires
 most-requires c κs = search needs

@@ -1,18 +1,15 @@
 -- `meets_at` meets its contract. Assumes nothing.
 use mathlib.Core.Bool.{_&&_}
 use Prim.Native.Nat.{_+_}
-use borrow.Author.Needs.{sfits-of}
+use borrow.Author.Needs.{sfits-of, needs}
 use lib.IntN.{pos}
 use lib.ListN.{getD}
 use lib.Signed.{ltZ}
 use mir.Syntax.{w16}
 use Rattle.zint.proofs.Bound.{back}
 use Rattle.order.specs.Sides.{overlap}
-use borrow.Author.Needs.{needs}
 use Rattle.order.proofs.sides.meets_at.Statement.{statement}
 use Rattle.order.proofs.sides.meets_at.Tie as tie
-use Rattle.order.proofs.sides.meets_at.Reads as reads
-use Rattle.order.proofs.sides.meets_at.Lts as lts
 
 mul-x0 : tie.Need-mul-x0
 mul-x0 c = search needs

@@ -1,16 +1,13 @@
 -- `note` meets its contract. Assumes nothing.
 use native.Mathlib.Omega.{arith}
 use Prim.Native.Nat.{_+_}
-use borrow.Author.Needs.{sfits-of}
+use borrow.Author.Needs.{sfits-of, needs}
 use lib.ListN.{set, length-set}
 use mir.Syntax.{w16}
 use Rattle.zint.proofs.Bound.{back}
 use Rattle.order.specs.Sides.{noted}
-use borrow.Author.Needs.{needs}
 use Rattle.order.proofs.sides.note.Statement.{statement}
 use Rattle.order.proofs.sides.note.Tie as tie
-use Rattle.order.proofs.sides.note.Reads as reads
-use Rattle.order.proofs.sides.note.Lts as lts
 
 mul-x0 : tie.Need-mul-x0
 mul-x0 c = search needs

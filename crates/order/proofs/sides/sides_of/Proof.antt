@@ -6,8 +6,6 @@ use Rattle.zint.proofs.Bound.{back-pos}
 use borrow.Author.Needs.{needs}
 use Rattle.order.proofs.sides.sides_of.Statement.{statement}
 use Rattle.order.proofs.sides.sides_of.Tie as tie
-use Rattle.order.proofs.sides.sides_of.Reads as reads
-use Rattle.order.proofs.sides.sides_of.Lts as lts
 
 add-x1 : tie.Need-add-x1
 add-x1 c = search needs

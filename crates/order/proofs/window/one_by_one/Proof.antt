@@ -9,9 +9,6 @@ use Rattle.job.specs.Rects.{clashOf}
 use Rattle.order.specs.Window.{Touch}
 use Rattle.order.proofs.window.one_by_one.Statement.{statement}
 use Rattle.order.proofs.window.one_by_one.Tie as tie
-use Rattle.order.proofs.window.one_by_one.Reads as reads
-use Rattle.order.proofs.window.one_by_one.Lts as lts
-use Rattle.order.proofs.window.turned.Reads as turned-reads
 
 abbrev Inv-loop : tie.InvT-loop
 Inv-loop width height n plan i top blocks hulls b h j₀ j = (i < j) × ((m : ℕ) → i < m → m < j → Touch blocks hulls b h m → clashOf width height n (rowAt plan i) (rowAt plan m) ≡ false)
@@ -44,11 +41,13 @@ loop-less c = omega arith
 
 loop-again : tie.Need-loop-again Inv-loop μ-loop
 loop-again c =
-    let k = c .before .before .before .loop in
-    (omega arith, λ m a b t. elim (ℕ-discrete m (k .j)) [
-      | yes q ↦ rw q (c .before .turned .ensures .free (c .if1 .left) (rw q at t))
-      | no nq ↦ k .inv .1 m a (omega arith) t
-    ])
+    let k = c .before .before .before .loop in (
+      omega arith,
+      λ m a b t. elim (ℕ-discrete m (k .j)) [
+        | yes q ↦ rw q (c .before .turned .ensures .free (c .if1 .left) (rw q at t))
+        | no nq ↦ k .inv .1 m a (omega arith) t
+      ],
+    )
 
 returns-2 : tie.Need-returns-2 Inv-loop μ-loop
 returns-2 c = record { found = λ e. absurd (false≢true e); free = λ e m a b t. c .before .loop .inv .1 m a (omega arith) t }

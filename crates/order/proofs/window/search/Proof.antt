@@ -7,10 +7,6 @@ use Rattle.order.proofs.Lists.{neither}
 use borrow.Author.Needs.{needs}
 use Rattle.order.proofs.window.search.Statement.{statement}
 use Rattle.order.proofs.window.search.Tie as tie
-use Rattle.order.proofs.window.search.Reads as reads
-use Rattle.order.proofs.window.search.Lts as lts
-use Rattle.order.proofs.sides.any_meets.Reads as any-meets-reads
-use Rattle.order.proofs.window.one_by_one.Reads as one-by-one-reads
 
 add-from : tie.Need-add-from
 add-from c = search needs

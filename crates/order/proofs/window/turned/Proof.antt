@@ -6,10 +6,6 @@ use Rattle.order.proofs.Lists.{neither, either}
 use borrow.Author.Needs.{needs}
 use Rattle.order.proofs.window.turned.Statement.{statement}
 use Rattle.order.proofs.window.turned.Tie as tie
-use Rattle.order.proofs.window.turned.Reads as reads
-use Rattle.order.proofs.window.turned.Lts as lts
-use Rattle.order.proofs.pair.rows_clash.Reads as rows-clash-reads
-use Rattle.order.proofs.sides.meets_at.Reads as meets-at-reads
 
 meets-at-requires : tie.Need-meets-at-requires
 meets-at-requires c κs = search needs

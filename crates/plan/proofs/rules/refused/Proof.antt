@@ -11,7 +11,9 @@ use Rattle.edges.specs.Rules.{isPlane}
 use Rattle.reorder.specs.Check.{onceB}
 use Rattle.order.specs.Own.{isOwn}
 use Rattle.plan.specs.Rules.{isPlan, runRules, runAnswer}
-use Rattle.plan.proofs.Tests.{kept, broken, sides, few, walk, once-is, own-is-once, own-is-kept}
+use Rattle.ladder.proofs.Ladder.{kept, broken}
+use Rattle.order.proofs.Entries.{once-is, own-is-once, own-is-kept}
+use Rattle.plan.proofs.Tests.{sides, few, whole, walk}
 use Rattle.plan.proofs.rules.refused.Statement.{statement}
 use Rattle.plan.proofs.rules.refused.Tie as tie
 
@@ -40,11 +42,11 @@ module _ (c : tie.Else2) where
   abbrev t2 : tie.Start
   t2 = t1 (c .before .before)
 
-  whole : isPlan (t2 .args .plan .now) (length (t2 .args .order .now)) (t2 .args .answers) ≡ true
-  whole = sym (c .before .is-plan .ensures) ∙ not-false (c .before .is-plan .result) (c .if2 .left)
+  rows : isPlan (t2 .args .plan .now) (length (t2 .args .order .now)) (t2 .args .answers) ≡ true
+  rows = sym (c .before .is-plan .ensures) ∙ not-false (c .before .is-plan .result) (c .if2 .left)
 
   two : After t2 2
-  two = kept _ _ _ _ whole (one (c .before .before))
+  two = kept _ _ _ _ rows (one (c .before .before))
 
 -- the order holds each job's index once
 module _ (c : tie.Else4) where
@@ -55,7 +57,7 @@ module _ (c : tie.Else4) where
   holds = sym (c .before .once .ensures) ∙ not-false (c .before .once .result) (c .if4 .left)
 
   three : After (t2 e2) 3
-  three = kept _ _ _ _ (sym (once-is _ _ _ (whole e2)) ∙ holds) (two e2)
+  three = kept _ _ _ _ (sym (once-is _ _ (whole _ _ _ (rows e2))) ∙ holds) (two e2)
 
 is-plane-requires : tie.Need-is-plane-requires
 is-plane-requires c κs = search needs
@@ -80,17 +82,17 @@ returns-3 c =
     let o = c .before .is-plan-order in
     let e = c .before .before in
     let own : isOwn (t2 e .args .order .now) ≡ true = sym (o .ensures) ∙ c .if3 .taken in
-    sym (kept _ _ _ _ (own-is-kept _ _ _ (whole e) own _ _ _) (kept _ _ _ _ (own-is-once _ _ _ (whole e) own) (two e)))
+    sym (kept _ _ _ _ (own-is-kept _ _ (whole _ _ _ (rows e)) own _ _ _) (kept _ _ _ _ (own-is-once _ _ (whole _ _ _ (rows e)) own) (two e)))
 
 once-requires : tie.Need-once-requires
-once-requires c κs = let t = t2 (c .before .before) in few (t .args .plan .now) (t .args .order .now) (t .args .answers) (whole (c .before .before))
+once-requires c κs = let t = t2 (c .before .before) in few (t .args .plan .now) (t .args .order .now) (t .args .answers) (rows (c .before .before))
 
 returns-4 : tie.Need-returns-4
 unfolding runAnswer
-returns-4 c = let o = c .before .once in let e = c .before .before .before .before in broken _ _ _ _ (sym (once-is _ _ _ (whole e)) ∙ sym (o .ensures) ∙ not-true (o .result) (c .if4 .taken)) (two e)
+returns-4 c = let o = c .before .once in let e = c .before .before .before .before in broken _ _ _ _ (sym (once-is _ _ (whole _ _ _ (rows e))) ∙ sym (o .ensures) ∙ not-true (o .result) (c .if4 .taken)) (two e)
 
 kept-requires : tie.Need-kept-requires
-kept-requires c κs = let e = e2 c in walk _ _ _ (whole e) _ _ (sides _ _ _ (plane (e .before .before))) (holds c)
+kept-requires c κs = let e = e2 c in walk _ _ _ (rows e) _ _ (sides _ _ _ (plane (e .before .before))) (holds c)
 
 returns-5 : tie.Need-returns-5
 unfolding runAnswer

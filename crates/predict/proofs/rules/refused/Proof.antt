@@ -5,7 +5,8 @@ use mathlib.Core.Path.{sym, _∙_}
 use native.Mathlib.Nat.{mul-le-mul}
 use native.Mathlib.Omega.{arith}
 use Rattle.numbers.proofs.Agree.{depth-no}
-use Rattle.predict.proofs.rules.refused.Proof.Passed.{kept, broken, none, one, two, three, four, five, six, seven, c1, c2, c3, c4, c5, c6, depth, lines, place, max-is}
+use Rattle.ladder.proofs.Ladder.{broken, kept}
+use Rattle.predict.proofs.rules.refused.Proof.Passed.{none, one, two, three, four, five, six, seven, c1, c2, c3, c4, c5, c6, depth, lines, place, max-is}
 use Rattle.predict.proofs.rules.refused.Statement.{statement}
 use Rattle.predict.proofs.rules.refused.Tie as tie
 mod Passed

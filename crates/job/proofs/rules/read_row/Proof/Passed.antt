@@ -15,6 +15,7 @@ use Rattle.numbers.specs.declared.answer.Answer.{Answer}
 use Rattle.numbers.proofs.Agree.{size-yes, depth-yes, depth-back}
 use Rattle.zint.proofs.Bound.{back}
 use Rattle.ladder.specs.Ladder.{Rule, ladder}
+use Rattle.ladder.proofs.Ladder.{kept}
 use Rattle.edges.specs.Rules.{isInside, hasNeighbours, isBase}
 use Rattle.edges.specs.declared.spec.IntraRefSpec.{IntraRefSpec}
 use Rattle.job.specs.Row.{specOf}
@@ -22,13 +23,6 @@ use Rattle.job.specs.Mode.{isMode, isFound, modeOf}
 use Rattle.job.specs.Rules.{rowRules, hasDifferences}
 use Rattle.job.specs.declared.mode.FoundMode.the-variants.{Is}
 use Rattle.job.proofs.rules.read_row.Tie as tie
-
--- ---- the ladder: a rule that is kept leaves the later ones, and one that is broken gives its answer
-pub kept : (a later refusal : Answer) (k : Bool) → k ≡ true → a ≡ cond k later refusal → a ≡ later
-kept a later refusal k e p = p ∙ ap (λ t. cond t later refusal) e
-
-pub broken : (a later refusal : Answer) (k : Bool) → k ≡ false → a ≡ cond k later refusal → refusal ≡ a
-broken a later refusal k e p = sym (p ∙ ap (λ t. cond t later refusal) e)
 
 module _ (w : tie.After-spec-of) where
   abbrev pub t : tie.Start

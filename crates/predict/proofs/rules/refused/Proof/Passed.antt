@@ -14,18 +14,12 @@ use Rattle.numbers.specs.declared.answer.Answer.{Answer}
 use Rattle.numbers.proofs.Agree.{depth-yes, depth-back}
 use Rattle.zint.proofs.Bound.{back}
 use Rattle.ladder.specs.Ladder.{Rule, ladder}
+use Rattle.ladder.proofs.Ladder.{kept}
 use Rattle.terms.specs.Reference.{isReference, isLines}
 use Rattle.predict.specs.Placed.{Placed}
 use Rattle.predict.specs.Rules.{isPlaced, hasNeighbours, predictRules, predictAnswer}
 use Rattle.predict.proofs.Granted.{placed}
 use Rattle.predict.proofs.rules.refused.Tie as tie
-
--- ---- the ladder: a rule that is kept leaves the later ones, and one that is broken gives its answer
-pub kept : (a later refusal : Answer) (k : Bool) → k ≡ true → a ≡ cond k later refusal → a ≡ later
-kept a later refusal k e p = p ∙ ap (λ t. cond t later refusal) e
-
-pub broken : (a later refusal : Answer) (k : Bool) → k ≡ false → a ≡ cond k later refusal → refusal ≡ a
-broken a later refusal k e p = sym (p ∙ ap (λ t. cond t later refusal) e)
 
 module _ (t : tie.Start) where
   abbrev pub rules : List Rule

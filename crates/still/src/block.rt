@@ -1,0 +1,24 @@
+// A block of the picture, as numbers.
+use crate::nearest;
+
+// The place of a block's sample in the picture, with i its number in the block.
+fn place(width: u16, x: u16, y: u16, i: u8) -> usize {
+    (y as usize + (i / 8) as usize) * width as usize + x as usize + (i % 8) as usize
+}
+
+fn sample_at(original: &[f32], at: usize) -> u16 {
+    if at < original.len() {
+        nearest::whole(original[at])
+    } else {
+        0
+    }
+}
+
+// The block that starts at a column and a row.
+pub fn block_of(original: &[f32], width: u16, x: u16, y: u16) -> [u16; 64] {
+    let mut block = [0u16; 64];
+    for i in 0..64u8 {
+        block[i as usize] = sample_at(original, place(width, x, y, i));
+    }
+    block
+}
