@@ -25,10 +25,11 @@ enum latch_answer {
     LATCH_DONE = 0,                  /* the work is done */
     LATCH_BAD_SIZE = 1,              /* B is none of 4, 8, 16, 32, 64 */
     LATCH_BAD_DEPTH = 2,             /* D is none of 8, 10, 12 */
-    LATCH_BAD_MODE = 3,              /* a direction above 7, a delta word above 6, or a stray flag bit */
+    LATCH_BAD_MODE = 3,              /* a mode above 4, a direction above 7, a delta word above 6, or a stray flag bit */
     LATCH_OUTSIDE_PLANE = 4,         /* x + B > width or y + B > height */
     LATCH_NO_NEIGHBOUR = 5,          /* a neighbour that is said to be there is not in the plane */
     LATCH_BAD_BASE = 6,              /* neither neighbour is there, and base is not in 1..M-1 */
+    LATCH_NO_DIFFERENCES = 7,        /* the B x B differences pass their list's end */
     LATCH_BAD_SAMPLE = 8,            /* a sample or edge entry that is read is not a number in 0..M */
     LATCH_SHORT_LIST = 9,            /* a list is shorter than the call needs */
     LATCH_BAD_COLOUR_DIRECTION = 10, /* a colour direction above 2 */
@@ -36,8 +37,64 @@ enum latch_answer {
     LATCH_BAD_LINES = 12,            /* a count of lines is above 256, or a block or its neighbour is not in the window */
     LATCH_BAD_COLOUR_SAMPLE = 13,    /* a luma value that is needed is not in 0..8M+7, or a chroma value not in 0..M */
     LATCH_SUM_TOO_LARGE = 14,        /* one of the nine colour sums exceeds 2147483647 */
-    LATCH_BAD_PLANE = 20             /* width or height is not in 4..4096, or the plane's length is not width x height */
+    LATCH_BAD_PLANE = 20,            /* width or height is not in 4..4096, or the plane's length is not width x height */
+    LATCH_BAD_PLAN = 21,             /* a plan not of whole rows or of too many, or a list not of its length */
+    LATCH_NOT_EACH_ONCE = 22,        /* the order does not hold each job's index once */
+    LATCH_PAIR_TURNED = 23           /* the order turns a clashing pair of jobs round */
 };
+
+/* A job is a row of sixteen 16-bit words. Words 5, 6, 13 and 14 are looked at only in mode 4. */
+enum latch_word {
+    LATCH_X = 0,                     /* the column of the block's first sample */
+    LATCH_Y = 1,                     /* its row */
+    LATCH_B = 2,                     /* the block size B */
+    LATCH_D = 3,                     /* the bit depth D */
+    LATCH_MODE = 4,                  /* a latch_mode */
+    LATCH_DIRECTION = 5,             /* a latch_direction */
+    LATCH_DELTA = 6,                 /* delta + 3, 0 to 6; the angle is the direction's degrees plus 3 times delta */
+    LATCH_FLAGS = 7,                 /* the sum of latch_flag bits */
+    LATCH_TOP_RIGHT = 8,             /* how many samples right of those over the block are there; above B it does what B does */
+    LATCH_BOTTOM_LEFT = 9,           /* the same below those left of the block */
+    LATCH_AVAILABLE_ABOVE = 10,      /* how many of the samples over the block are there; above B it does what B does */
+    LATCH_AVAILABLE_LEFT = 11,       /* the same left of the block */
+    LATCH_BASE = 12,                 /* the neutral value, with neither neighbour there */
+    LATCH_MAX_WIDTH = 13,            /* how far the edge filter goes above; 0 stands for B */
+    LATCH_MAX_HEIGHT = 14,           /* the same at the left */
+    LATCH_DIFFERENCES = 15           /* where the job's differences start, in units of LATCH_DIFFERENCES_UNIT */
+};
+
+enum latch_mode {
+    LATCH_MODE_PAETH = 0,
+    LATCH_MODE_SMOOTH = 1,
+    LATCH_MODE_SMOOTH_V = 2,
+    LATCH_MODE_SMOOTH_H = 3,
+    LATCH_MODE_DIRECTIONAL = 4       /* a direction with its delta */
+};
+
+enum latch_direction {
+    LATCH_VERTICAL = 0,              /* 90 degrees */
+    LATCH_HORIZONTAL = 1,            /* 180 degrees */
+    LATCH_D45 = 2,
+    LATCH_D135 = 3,
+    LATCH_D113 = 4,
+    LATCH_D157 = 5,
+    LATCH_D203 = 6,
+    LATCH_D67 = 7
+};
+
+/* The bits of a flag word; every other bit is zero. */
+enum latch_flag {
+    LATCH_HAVE_ABOVE = 1,            /* bit 0: above is there */
+    LATCH_HAVE_LEFT = 2,             /* bit 1: left is there */
+    LATCH_LUMA = 4,                  /* bit 2: luma */
+    LATCH_EDGE_FILTER = 8,           /* bit 3: the edge filter is set */
+    LATCH_SMOOTH_NEIGHBOUR = 16      /* bit 4: a neighbour is smooth */
+};
+
+/* How many words a row has, how many jobs a plan has at most, and in what unit word 15 tells a start. */
+#define LATCH_ROW_WORDS 16
+#define LATCH_JOBS_MOST 1024
+#define LATCH_DIFFERENCES_UNIT 16
 
 /* How many entries latch_build_refs writes to each edge: 2B at the largest B. */
 #define LATCH_EDGE_ENTRIES 128
@@ -198,6 +255,55 @@ uint32_t latch_predict_block(const int32_t *luma, size_t luma_len, size_t ref_wi
                              size_t above_lines, size_t left_lines, size_t width, size_t height,
                              bool have_top, bool have_left, uint32_t direction, uint32_t d,
                              int32_t p0, int32_t p1, int32_t p2, int32_t *out, size_t out_len);
+
+/* run_job: a single job: its block is predicted from the plane around it, and written there with its differences.
+ *
+ * The edges are those of latch_build_refs for the row's words, and the prediction is what the mode's own call above gives of
+ * them. A written sample is its prediction plus its difference, clipped to 0..M. The block's differences stand in their list from
+ * entry 16 times word 15 on, row by row.
+ *
+ * Reads the plane where latch_build_refs does, in every mode; writes the B x B block of the plane, and nothing else.
+ * Lent: plane, exactly width x height entries; row, exactly 16 words (latch_word).
+ *
+ * Refusals, in the order of checking:
+ *   20  width or height is not in 4..4096, or plane_len is not width x height
+ *   21  row_len is not 16
+ *    1  B is none of 4, 8, 16, 32, 64
+ *    2  D is none of 8, 10, 12
+ *    3  the mode is above 4; in mode 4, the direction is above 7 or the delta word above 6; a bit of flags from 5 on is set
+ *    4  x + B > width or y + B > height
+ *    5  above is there, and y = 0 or available-above = 0 or x + B + min(top-right, B) > width;
+ *       left is there, and x = 0 or available-left = 0 or y + B + min(bottom-left, B) > height
+ *    6  neither is there, and base is not in 1..M-1
+ *    7  16 times word 15, plus B x B, exceeds differences_len
+ *    8  a sample that is read is not a number in 0..M
+ * A refused call changes nothing; the slices must not overlap. */
+uint32_t latch_run_job(float *plane, size_t plane_len, size_t width, size_t height, const uint16_t *row, size_t row_len,
+                       const int16_t *differences, size_t differences_len);
+
+/* run: a plan's jobs, in an order that ends as the plan's own would.
+ *
+ * The plan is its jobs' rows, one after the other, at most 1024; order holds each row's index once and says which job is done
+ * first, second and so on. Jobs of different D may stand in one plan. Two jobs clash if one writes a sample that the other
+ * reads or writes. A job that would be refused by 1 to 7 clashes with none; one that 8 would refuse clashes as if it were
+ * done, so that clashes hang on rows and sizes alone. An order that leaves every clashing pair as the plan has it is taken, and
+ * the plane and the answers are then those of the plan's own order.
+ *
+ * Writes answers[i] for every row i of the plan: 0 where the job is done, or its refusal, 1 to 8, as latch_run_job has it, with
+ * the run going on; writes the blocks of the jobs that are done. differences is one list for the whole plan, in which a job's
+ * own stand from entry 16 times its word 15 on. An empty plan, with an empty order and empty answers, is done and writes nothing;
+ * each may have any pointer.
+ * Lent: plane, exactly width x height entries; plan, exactly 16 words a job; order and answers, exactly one entry a job.
+ *
+ * Refusals, in the order of checking:
+ *   20  width or height is not in 4..4096, or plane_len is not width x height
+ *   21  plan_len is not a multiple of 16 or is above 16 x 1024, or order_len or answers_len is not plan_len / 16
+ *   22  the order does not hold each of 0..order_len-1 once
+ *   23  the order has the later one of two clashing jobs before the earlier one
+ * A refused call changes nothing, neither the plane nor answers; the slices must not overlap. */
+uint32_t latch_run(float *plane, size_t plane_len, size_t width, size_t height, const uint16_t *plan, size_t plan_len,
+                   const uint16_t *order, size_t order_len, const int16_t *differences, size_t differences_len,
+                   uint16_t *answers, size_t answers_len);
 
 #ifdef __cplusplus
 }

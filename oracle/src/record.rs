@@ -1,13 +1,21 @@
 // record.rs: writes a fixed list of the original Rust's answers as text, for a program to replay without the Rust.
 #[allow(dead_code)]
+mod calls;
+#[allow(dead_code)]
 mod colour;
+#[allow(dead_code)]
+mod draw;
 mod inputs;
 mod original;
+#[allow(dead_code)]
+mod plan;
 mod random;
 mod recorded;
 #[allow(dead_code)]
 mod refusals;
 mod spec;
+#[allow(dead_code)]
+mod tally;
 mod util;
 
 use random::Random;
@@ -31,6 +39,8 @@ const HEADER: &str = "\
 # Then the rows*columns entries of luma, those of chroma, and the params_len parameters due, where all were 0 before the call.
 # B d direction ref_width ref_height above_lines left_lines width height have_top have_left p0 p1 p2 luma_len out_len answer
 # rows columns: predict_block. Then the rows*columns entries of luma, and the out_len samples due, where all were 0 before.
+# J width height plane_len plan_len order_len differences_len answers_len answer: run. Then the samples of the plane, the words of
+# the plan, the order, the differences modulo 2^16, the answers due, where all were 65535 before the call, and the samples due.
 ";
 
 fn main() {
@@ -41,4 +51,5 @@ fn main() {
     recorded::directional::all(&mut random);
     recorded::derive_params::all(&mut random);
     recorded::predict_block::all(&mut random);
+    recorded::plans::all(&mut random);
 }

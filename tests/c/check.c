@@ -46,6 +46,10 @@ bool zone_kept(const struct zone *zone, size_t written) {
            memcmp(zone->now + rest, zone->before + rest, zone->lent - written + ZONE_GUARD) == 0;
 }
 
+void *zone_due(struct zone *zone) {
+    return zone->before + ZONE_GUARD;
+}
+
 int64_t with_max(int64_t value, int64_t most) {
     return value > INT64_C(1) << 39 && value < INT64_C(1) << 41 ? value - M_PLUS(0) + most : value;
 }
@@ -58,7 +62,7 @@ size_t length(int64_t needed, int64_t more) {
 static uint32_t fields_set(const struct fault *fault) {
     uint32_t fields = 0;
     for (int i = 0; i < SETS_MOST; i++)
-        if (fault->sets[i].field != 0) fields |= UINT32_C(1) << fault->sets[i].field;
+        if (fault->sets[i].field != 0) fields |= BIT(fault->sets[i].field);
     return fields;
 }
 

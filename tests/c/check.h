@@ -23,10 +23,13 @@ void *zone_lend(struct zone *zone, size_t bytes);
 /* Takes down what the zone holds; then zone_kept says whether all but the first `written` lent bytes is still so. */
 void zone_remember(struct zone *zone);
 bool zone_kept(const struct zone *zone, size_t written);
+/* The lent bytes as they were taken down: a test may write there what a call is due to write, before it asks zone_kept. */
+void *zone_due(struct zone *zone);
 
-/* A call's parameters are numbered fields from 1 on. Every call has the first ones; from OWN_FIELDS on they are its own. */
+/* A call's parameters are numbered fields from 1 on. The first ones are of several calls; from OWN_FIELDS on they are its own. */
 enum { B = 1, D, ABOVE_MORE, LEFT_MORE, OWN_FIELDS };
-enum { FIELDS_MOST = 32, SETS_MOST = 4, TABLES_MOST = 3 };
+enum { FIELDS_MOST = 32, SETS_MOST = 4, TABLES_MOST = 5 };
+#define BIT(field) (UINT32_C(1) << (field))
 /* Lengths are told as entries more than needed; NONE is an empty slice. */
 #define NONE INT64_MIN
 size_t length(int64_t needed, int64_t more);
@@ -49,8 +52,8 @@ struct faults {
     size_t count;
 };
 #define FAULTS(rows) {rows, COUNT(rows)}
-/* The faults of every call: in its size, its depth and the lengths of its edges. */
-extern const struct faults common_faults;
+/* Faults that several calls have: in the size and the depth, and in the lengths of the edges. */
+extern const struct faults size_faults, edge_faults;
 
 struct call {
     char name[64];
@@ -73,5 +76,11 @@ void test_build_refs(void);
 void test_colour_numbers(void);
 void test_derive_params(void);
 void test_predict_block(void);
+void test_run_job(void);
+void test_written(void);
+void test_run(void);
+void test_plans(void);
+void test_clashes(void);
+void test_turned(void);
 
 #endif

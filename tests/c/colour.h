@@ -5,7 +5,6 @@
 #include "check.h"
 
 enum { DIRECTION = OWN_FIELDS, REF_WIDTH, REF_HEIGHT, ABOVE_LINES, LEFT_LINES, LUMA_MORE, LUMA_AT, LUMA_IS, COLOUR_FIELDS };
-#define BIT(field) (UINT32_C(1) << (field))
 #define PLACE(row, column) ((row) * 256 + (column))
 /* LUMA_AT: no place. */
 enum { NOWHERE = -1 };

@@ -120,11 +120,11 @@ void test_direct(void) {
     for (size_t p = 0; p < COUNT(predictors); p++)
         for (size_t i = 0; i < COUNT(sizes) * COUNT(depths); i++) {
             int64_t b = sizes[i % COUNT(sizes)], d = depths[i / COUNT(sizes)];
-            struct call call = {.order = order, .tables = {common_faults, FAULTS(faults)}, .make = make,
+            struct call call = {.order = order, .tables = {size_faults, edge_faults, FAULTS(faults)}, .make = make,
                                 .plain = {[B] = b, [D] = d, [CORNER] = 100, [DIRECTION] = (int64_t)i % 8, [DELTA] = 2,
                                           [FLAGS] = 31},
                                 .target = &predictors[p].function};
-            if (predictors[p].function == NULL) call.tables[2] = (struct faults)FAULTS(directional_faults);
+            if (predictors[p].function == NULL) call.tables[3] = (struct faults)FAULTS(directional_faults);
             snprintf(call.name, sizeof call.name, "%s B %d D %d", predictors[p].name, (int)b, (int)d);
             try_faults(&call);
         }

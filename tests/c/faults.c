@@ -1,7 +1,7 @@
-/* faults.c: the faults that every call can have: in its size, its depth and the lengths of its edges. */
+/* faults.c: the faults that several calls can have: in the size and the depth, and in the lengths of the edges. */
 #include "check.h"
 
-static const struct fault faults[] = {
+static const struct fault of_size[] = {
     {"B 0", 1, {{B, 0}}, 0},
     {"B 2", 1, {{B, 2}}, 0},
     {"B 3", 1, {{B, 3}}, 0},
@@ -25,6 +25,9 @@ static const struct fault faults[] = {
     {"D 13", 2, {{D, 13}}, 0},
     {"D 16", 2, {{D, 16}}, 0},
     {"D 65535", 2, {{D, 65535}}, 0},
+};
+
+static const struct fault of_edges[] = {
     {"above one short", 9, {{ABOVE_MORE, -1}}, 0},
     {"above empty", 9, {{ABOVE_MORE, NONE}}, 0},
     {"above longer", 0, {{ABOVE_MORE, 3}}, 0},
@@ -33,4 +36,4 @@ static const struct fault faults[] = {
     {"left longer", 0, {{LEFT_MORE, 3}}, 0},
 };
 
-const struct faults common_faults = FAULTS(faults);
+const struct faults size_faults = FAULTS(of_size), edge_faults = FAULTS(of_edges);

@@ -9,5 +9,11 @@ int main(void) {
     test_colour_numbers();
     test_derive_params();
     test_predict_block();
+    test_run_job();
+    test_written();
+    test_run();
+    test_plans();
+    test_clashes();
+    test_turned();
     return checks_done();
 }

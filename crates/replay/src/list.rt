@@ -4,6 +4,7 @@ use crate::derived;
 use crate::directed;
 use crate::predicted;
 use crate::refs;
+use crate::runs;
 
 pub struct Tally {
     pub cases: u64,
@@ -33,6 +34,7 @@ fn agrees(s: &[u8], at: usize, letter: u8) -> bool {
         b'D' => directed::agrees(s, at),
         b'C' => derived::agrees(s, at),
         b'B' => predicted::agrees(s, at),
+        b'J' => runs::agrees(s, at),
         _ => case::agrees(s, at, letter),
     }
 }

@@ -7,6 +7,8 @@ mod list;
 mod predicted;
 mod refs;
 mod room;
+mod runs;
+mod words;
 
 use crate::list::Tally;
 use libc::STDOUT_FILENO;

@@ -1,4 +1,4 @@
-// Room to work in: an edge, a block, a plane, sixteen rows of a colour window.
+// Room to work in: an edge, a block, a plane, sixteen rows of a colour window, a small plan.
 ghost use mathlib.Core.Path.{_≡_};
 ghost use Prim.Native.Nat.{_<_};
 ghost use lib.ListN.{length};
@@ -25,6 +25,25 @@ pub fn window() -> [i32; 4096]
     ensures { λ r. ⌜ 4096 ≡ length r ⌝ }
 {
     [0; 4096]
+}
+
+pub fn words() -> [u16; 128]
+    ensures { λ r. ⌜ 128 ≡ length r ⌝ }
+{
+    [0; 128]
+}
+
+pub fn differences() -> [i16; 2048]
+    ensures { λ r. ⌜ 2048 ≡ length r ⌝ }
+{
+    [0; 2048]
+}
+
+// Answers that no run gives.
+pub fn unanswered() -> [u16; 128]
+    ensures { λ r. ⌜ 128 ≡ length r ⌝ }
+{
+    [65535; 128]
 }
 
 // How many samples a plane or a block has.

@@ -75,6 +75,6 @@ module _ (W H : ℕ) (differences : List ℤ) (row : Row) (plane : List Float) w
       record {
         answers = d .answers ∙ same;
         holds = d .holds
-        ∙ (λ i. lent (readAnswer W job plane) (painted W (record { x = e i .spec .x; y = e i .spec .y; w = e i .spec .b; h = e i .spec .b }) (writtenAt W differences (e i) plane) plane) plane)
-        ∙ ap (λ a. lent a (painted W (blockOf row) (writtenAt W differences (jobOf row) plane) plane) plane) same;
+            ∙ (λ i. lent (readAnswer W job plane) (painted W (record { x = e i .spec .x; y = e i .spec .y; w = e i .spec .b; h = e i .spec .b }) (writtenAt W differences (e i) plane) plane) plane)
+            ∙ ap (λ a. lent a (painted W (blockOf row) (writtenAt W differences (jobOf row) plane) plane) plane) same;
       }

@@ -1,5 +1,5 @@
 // One job done (document 01, From samples to edges): its block is predicted from the plane and written with its differences. `run_job` takes any input.
-pub mod predict;
+pub mod by_mode;
 pub mod work;
 pub mod write;
 
@@ -14,13 +14,7 @@ ghost use Rattle.single.specs.Granted.{Tested, readAnswer, readDone};
 ghost use Rattle.single.specs.Done.{singleAnswer, singleDone};
 
 // A job that 1 to 7 do not refuse, with room for its prediction: the edges have theirs here.
-fn edged(
-    plane: &mut [f32],
-    width: usize,
-    job: Job,
-    differences: &[i16],
-    out: &mut [f32],
-) -> Answer
+fn edged(plane: &mut [f32], width: usize, job: Job, differences: &[i16], out: &mut [f32]) -> Answer
     requires { ⌜ Tested width (length (now differences)) (length (now plane)) job × (job .spec .b * job .spec .b ≤ length (now out)) ⌝ }
     ensures { λ r. ⌜ Promise (readAnswer width job (now (plane .entry))) (readDone width (now (differences .entry)) job (now (plane .entry))) r (now (plane .exit)) ⌝ }
 {

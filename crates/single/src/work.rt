@@ -1,5 +1,5 @@
 // One job over its plane: the edges are built, the block predicted, and the differences added into the plane.
-use crate::predict;
+use crate::by_mode;
 use crate::write;
 use edges::fill;
 use edges::reads;
@@ -51,7 +51,7 @@ fn block_into(
     fill::fill_above(plane, width, s, above);
     fill::fill_left(plane, width, s, left);
     let corner = fill::corner_of(plane, width, s);
-    predict::predict_into(job, above, left, corner, out);
+    by_mode::predict_into(job, above, left, corner, out);
 }
 
 // The block predicted, and written with its differences.

@@ -1,21 +1,21 @@
 // mod.rs: latch_run and latch_run_job on plans of all kinds, in accepted orders and in others, against a plain runner.
-mod clashes;
+pub mod clashes;
 mod draw;
 mod every;
 mod faults;
 mod guarded;
 mod hold;
-mod job;
+pub mod job;
 mod kinds;
 mod large;
-mod orders;
+pub mod orders;
 mod paper;
-mod row;
-mod rules;
-mod runner;
+pub mod row;
+pub mod rules;
+pub mod runner;
 mod runs;
 mod seen;
-mod spoil;
+pub mod spoil;
 mod touching;
 
 use crate::random::Random;
@@ -28,20 +28,20 @@ const DRAWN: f64 = 200_000.0;
 /// What a run is lent, but for its order and its answers; the plane as bits.
 #[derive(Clone)]
 pub struct Plan {
-    width: usize,
-    height: usize,
-    plane: Vec<u32>,
-    rows: Vec<u16>,
-    differences: Vec<i16>,
+    pub width: usize,
+    pub height: usize,
+    pub plane: Vec<u32>,
+    pub rows: Vec<u16>,
+    pub differences: Vec<i16>,
 }
 
 impl Plan {
     /// How many whole rows there are.
-    fn jobs(&self) -> usize {
+    pub fn jobs(&self) -> usize {
         self.rows.len() / WORDS
     }
 
-    fn list(&self) -> &[Row] {
+    pub fn list(&self) -> &[Row] {
         self.rows.as_chunks().0
     }
 

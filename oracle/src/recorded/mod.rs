@@ -3,6 +3,7 @@ mod corner;
 pub mod derive_params;
 pub mod directional;
 pub mod edges;
+pub mod plans;
 pub mod predict_block;
 pub mod predictors;
 

@@ -4,7 +4,7 @@ use borrow.Author.Tests.{not-true, not-false}
 use mathlib.Core.Path.{_≡_, refl, sym, _∙_, ap}
 use mathlib.Core.Bool.{true}
 use mathlib.Core.List.{List}
-use Prim.Native.Nat.{ℕ}
+use Prim.Native.Nat.{ℕ, _*_}
 use lib.ListN.{length, drop}
 use Rattle.ladder.specs.Ladder.{Rule, ladder}
 use Rattle.edges.specs.Rules.{isPlane}
@@ -45,6 +45,9 @@ module _ (c : tie.Else2) where
   rows : isPlan (t2 .args .plan .now) (length (t2 .args .order .now)) (t2 .args .answers) ≡ true
   rows = sym (c .before .is-plan .ensures) ∙ not-false (c .before .is-plan .result) (c .if2 .left)
 
+  long : length (t2 .args .plan .now) ≡ 16 * length (t2 .args .order .now)
+  long = whole (t2 .args .plan .now) (t2 .args .order .now) (t2 .args .answers) rows
+
   two : After t2 2
   two = kept _ _ _ _ rows (one (c .before .before))
 
@@ -57,7 +60,7 @@ module _ (c : tie.Else4) where
   holds = sym (c .before .once .ensures) ∙ not-false (c .before .once .result) (c .if4 .left)
 
   three : After (t2 e2) 3
-  three = kept _ _ _ _ (sym (once-is _ _ (whole _ _ _ (rows e2))) ∙ holds) (two e2)
+  three = kept _ _ _ _ (sym (once-is _ _ (long e2)) ∙ holds) (two e2)
 
 is-plane-requires : tie.Need-is-plane-requires
 is-plane-requires c κs = search needs
@@ -82,17 +85,17 @@ returns-3 c =
     let o = c .before .is-plan-order in
     let e = c .before .before in
     let own : isOwn (t2 e .args .order .now) ≡ true = sym (o .ensures) ∙ c .if3 .taken in
-    sym (kept _ _ _ _ (own-is-kept _ _ (whole _ _ _ (rows e)) own _ _ _) (kept _ _ _ _ (own-is-once _ _ (whole _ _ _ (rows e)) own) (two e)))
+    sym (kept _ _ _ _ (own-is-kept _ _ (long e) own _ _ _) (kept _ _ _ _ (own-is-once _ _ (long e) own) (two e)))
 
 once-requires : tie.Need-once-requires
 once-requires c κs = let t = t2 (c .before .before) in few (t .args .plan .now) (t .args .order .now) (t .args .answers) (rows (c .before .before))
 
 returns-4 : tie.Need-returns-4
 unfolding runAnswer
-returns-4 c = let o = c .before .once in let e = c .before .before .before .before in broken _ _ _ _ (sym (once-is _ _ (whole _ _ _ (rows e))) ∙ sym (o .ensures) ∙ not-true (o .result) (c .if4 .taken)) (two e)
+returns-4 c = let o = c .before .once in let e = c .before .before .before .before in broken _ _ _ _ (sym (once-is _ _ (long e)) ∙ sym (o .ensures) ∙ not-true (o .result) (c .if4 .taken)) (two e)
 
 kept-requires : tie.Need-kept-requires
-kept-requires c κs = let e = e2 c in walk _ _ _ (rows e) _ _ (sides _ _ _ (plane (e .before .before))) (holds c)
+kept-requires c κs = let e = e2 c in walk (t2 e .args .plan .now) (t2 e .args .order .now) (t2 e .args .answers) (rows e) _ _ (sides _ _ _ (plane (e .before .before))) (holds c)
 
 returns-5 : tie.Need-returns-5
 unfolding runAnswer

@@ -13,8 +13,8 @@ use Rattle.numbers.specs.declared.mode.Mode.the-variants.{Paeth, Smooth, Smooth
 use Rattle.lists.specs.Block.{block}
 use Rattle.paeth.specs.Paeth.{paethAt}
 use Rattle.single.proofs.Modes.{paeth-asks, smooth-asks, turned-asks, block-is}
-use Rattle.single.proofs.predict.predict_into.Statement.{statement}
-use Rattle.single.proofs.predict.predict_into.Tie as tie
+use Rattle.single.proofs.by_mode.predict_into.Statement.{statement}
+use Rattle.single.proofs.by_mode.predict_into.Tie as tie
 
 abbrev B : tie.Start → ℕ
 B t = t .args .job .spec .b
