@@ -3,7 +3,8 @@
  * Every function takes any input and returns LATCH_DONE (0) or the number of a refusal.
  *  - A slice is a pointer and then its length in entries. An empty slice may have any pointer.
  *  - A refused call changes nothing that it was lent.
- *  - A list that is longer than needed keeps its tail; entries past the needed ones are not looked at.
+ *  - A list that is longer than needed keeps its tail, unless the call says exactly how long it is; entries past the needed
+ *    ones are not looked at.
  *  - The slices of one call must not overlap.
  *  - Calls share no memory of their own: several threads may call at once on slices that do not overlap.
  *

@@ -86,7 +86,7 @@ fn stored(text: &str) -> Page {
 /// Whether the stored pages of the program `still` are the Rust's; it ends the run where one is not.
 pub fn compare(root: &str) {
     let file = |name: &str| std::fs::read_to_string(format!("{root}/{name}")).expect(name);
-    for (still, page) in [("finish", "crates/still/stdout"), ("bend", "tests/still/bend.txt")] {
+    for (still, page) in [("finish", "crates/still/stdout"), ("bend", "tests/still/bend.txt"), ("field", "tests/still/field.txt")] {
         let ours = stored(&file(page));
         let rust = of_the_rust(&picture(&file(&format!("crates/still/data/{still}.pgm"))));
         if ours != rust {

@@ -82,5 +82,6 @@ void test_run(void);
 void test_plans(void);
 void test_clashes(void);
 void test_turned(void);
+void test_stack(void);
 
 #endif

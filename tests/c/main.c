@@ -15,5 +15,6 @@ int main(void) {
     test_plans();
     test_clashes();
     test_turned();
+    test_stack();
     return checks_done();
 }

@@ -5,6 +5,7 @@
 
 enum { SIDE = 20 };
 static const uint16_t backwards[] = {1, 0};
+static const uint16_t forwards[] = {0, 1};
 
 /* Two touching blocks, the right one reading the left. */
 static const row_words touching[2] = {
@@ -13,20 +14,26 @@ static const row_words touching[2] = {
      [LATCH_BOTTOM_LEFT] = 1, [LATCH_BASE] = 128},
 };
 
-/* The touching blocks with one word set, done backwards; the answers that are then due, or 23. */
-static void named(const char *name, int job, int word, uint16_t value, int64_t nan_at, uint32_t due, uint16_t first,
-                  uint16_t second) {
+/* The touching blocks with one word set, done in an order; the answers that are then due, or 23. */
+static void ordered(const char *name, const uint16_t *order, int job, int word, uint16_t value, int64_t nan_at, uint32_t due,
+                    uint16_t first, uint16_t second) {
     row_words jobs[2];
     memcpy(jobs, touching, sizeof jobs);
     jobs[job][word] = value;
     uint16_t answers[2] = {0};
     bool kept = false;
-    struct run run = {SIDE, SIDE, nan_at, jobs[0], backwards, 2 * LATCH_ROW_WORDS, 2, 2};
+    struct run run = {SIDE, SIDE, nan_at, jobs[0], order, 2 * LATCH_ROW_WORDS, 2, 2};
     uint32_t got = run_kept(&run, answers, &kept);
     check(got == due && kept, "%s: %u, not %u, kept %d", name, got, due, kept);
     if (due == LATCH_DONE)
         check(answers[0] == first && answers[1] == second, "%s: answers %u, %u, not %u, %u", name, answers[0], answers[1], first,
               second);
+}
+
+/* The same backwards. */
+static void named(const char *name, int job, int word, uint16_t value, int64_t nan_at, uint32_t due, uint16_t first,
+                  uint16_t second) {
+    ordered(name, backwards, job, word, value, nan_at, due, first, second);
 }
 
 /* The touching blocks with a job between them that meets neither, in all six orders: the pair counts wherever it stands. */
@@ -51,6 +58,7 @@ void test_turned(void) {
     between();
     named("job order written backwards on two touching blocks, the right one reading the left", 0, LATCH_X, 4, NOWHERE, 23, 0, 0);
     named("two touching blocks, neither reading", 1, LATCH_FLAGS, 0, NOWHERE, 0, 0, 0);
+    ordered("a job that 8 refuses, in the plan's order", forwards, 1, LATCH_X, 8, 8 * SIDE + 7, 0, 0, 8);
     named("a job that 8 refuses still clashes", 1, LATCH_X, 8, 8 * SIDE + 7, 23, 0, 0);
     named("a job that 1 refuses", 0, LATCH_B, 5, NOWHERE, 0, 1, 0);
     named("a reader that 1 refuses", 1, LATCH_B, 0, NOWHERE, 0, 0, 1);

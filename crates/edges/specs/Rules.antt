@@ -16,7 +16,7 @@ use Rattle.samples.specs.Sample.{isSample}
 use Rattle.edges.specs.declared.spec.IntraRefSpec.{IntraRefSpec}
 use Rattle.edges.specs.Behind.{Behind, place, number, aboveBehind, leftBehind, cornerBehind}
 
--- "W or H out of range, or the plane's length is not W x H"
+-- "A plane is W by H samples of f32, W and H from 4 to 4,096." 20: "W or H out of range, or the plane's length is not W x H"
 abbrev pub inRange : ℕ → Bool
 inRange n = leb 4 n && leb n 4096
 

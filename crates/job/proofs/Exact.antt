@@ -10,7 +10,7 @@ use Rattle.edges.specs.declared.spec.IntraRefSpec.{IntraRefSpec}
 use Rattle.reorder.specs.Rect.{InAny, AllWide}
 use Rattle.job.specs.Row.{Row, specOf}
 use Rattle.job.specs.Rules.{stands}
-use Rattle.job.specs.Touches.{Reads, blockOf, Writes}
+use Rattle.job.specs.Touches.{Reads, Writes}
 use Rattle.job.specs.Rects.{runsOf, readsOf, writesOf}
 use Rattle.job.proofs.Stands.{Standing, standing}
 use Rattle.job.proofs.Runs.{rect-if, wide-if, run-of-read, read-of-run}

@@ -9,7 +9,7 @@ use Rattle.zint.proofs.Range.{and-both}
 use Rattle.line.specs.Along.{along}
 use Rattle.line.proofs.Along.{along-here, along-far, along-in}
 use Rattle.line.proofs.Every.{and-of}
-use Rattle.edges.specs.Behind.{Behind, place, number, aboveBehind, leftBehind, cornerBehind}
+use Rattle.edges.specs.Behind.{Behind, place, number}
 use Rattle.edges.specs.declared.spec.IntraRefSpec.{IntraRefSpec}
 use Rattle.edges.proofs.Behind.{above-there, above-by-left, above-by-base, left-there, left-by-above, left-by-base}
 use Rattle.edges.proofs.Behind.{corner-by-both, corner-by-above, corner-by-left, corner-by-base}

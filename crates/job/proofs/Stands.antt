@@ -1,7 +1,7 @@
 -- What a job that does not fail 1 to 7 can count on, and how its answer goes on from there. Assumes nothing.
 use mathlib.Core.Path.{_≡_, refl, sym, _∙_, ap}
 use mathlib.Core.Bool.{Bool, true, false, cond}
-use mathlib.Core.List.{List, _++_}
+use mathlib.Core.List.{List}
 use Prim.Native.Nat.{ℕ, _+_, _≤_, min}
 use lib.Dec.{leb}
 use lib.Ieee.{Float}

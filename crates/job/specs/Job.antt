@@ -6,10 +6,10 @@ use Rattle.numbers.specs.declared.mode.Mode.{Mode}
 use Rattle.numbers.specs.declared.mode.Mode.the-variants.{Paeth}
 use Rattle.numbers.specs.declared.word.Word.the-variants.{FlagWord, MaxWidth, MaxHeight}
 use Rattle.job.specs.Row.{Row, word, specOf, startOf}
-use Rattle.job.specs.Mode.{modeOf}
+use Rattle.job.specs.Mode.{rowMode}
 use Rattle.job.specs.Rules.{stands, rowAnswer}
-use Rattle.job.specs.declared.mode.FoundMode.{FoundMode}
-use Rattle.job.specs.declared.mode.FoundMode.the-variants as found
+use Rattle.numbers.specs.declared.mode.FoundMode.{FoundMode}
+use Rattle.numbers.specs.declared.mode.FoundMode.the-variants as found
 use Rattle.job.specs.declared.job.Job.{Job}
 use Rattle.job.specs.declared.job.FoundJob.{FoundJob}
 use Rattle.job.specs.declared.job.FoundJob.the-variants.{Is, Refused}
@@ -22,7 +22,7 @@ modeIn found.NoMode = Paeth
 abbrev pub jobOf : Row → Job
 jobOf row = record {
   spec = specOf row;
-  mode = modeIn (modeOf row);
+  mode = modeIn (rowMode row);
   flags = flagsOf (word row FlagWord);
   «max_width» = word row MaxWidth;
   «max_height» = word row MaxHeight;

@@ -20,7 +20,7 @@ use Rattle.job.specs.Mode.{isMode}
 unfoldable pub hasDifferences : ℕ → Row → Bool
 hasDifferences n row = leb (startOf row + word row Side * word row Side) n
 
--- the rules 1 to 7, by the row and the sizes alone: a plane of W by H samples, n differences
+-- 1: "B is none of the five"; 2: "D is none of the three". The rules 1 to 7, by the row and the sizes alone: a plane of W by H samples, n differences
 abbrev pub rowRules : ℕ → ℕ → ℕ → Row → List Rule
 rowRules W H n row =
     isSize (word row Side) else BadSize ∷

@@ -2,12 +2,12 @@
 use crate::job::FoundJob;
 use crate::job::Job;
 use crate::mode;
-use crate::mode::FoundMode;
 use crate::row;
 use numbers::answer::Answer;
 use numbers::depth::Depth;
 use numbers::depth::FoundDepth;
 use numbers::flag::Flags;
+use numbers::mode::FoundMode;
 use numbers::size::FoundSize;
 use numbers::size::Size;
 use numbers::word::Word;

@@ -8,7 +8,7 @@ use Rattle.numbers.specs.declared.answer.Answer.the-variants.{Done}
 use Rattle.numbers.proofs.Named.{done-is}
 use Rattle.ladder.specs.Promise.{lent, Promise}
 
--- any two results that a promise allows coincide, whatever the call, its answer's type and its memory
+-- "Show that any two results allowed by the same promise coincide": whatever the call, its answer's type and its memory
 pub coincide : {R M : Type 0} {answer r r' : R} {memory after after' : M}
     → Promise answer memory r after → Promise answer memory r' after' → (r ≡ r') × (after ≡ after')
 coincide p q = (p .answers ∙ sym (q .answers), p .holds ∙ sym (q .holds))

@@ -8,7 +8,7 @@ use Rattle.numbers.specs.declared.answer.Answer.{Answer}
 abbrev pub lent : {M : Type 0} → Answer → M → M → M
 lent answer done before = cond (isDone answer) done before
 
--- r is what the call returned, and after what stands in its memory at the end
+-- "Every public function states its result, with all lent memory afterwards, refusals too." r is what the call returned, and after what stands in its memory at the end
 pub record Promise {R M : Type 0} (answer : R) (memory : M) (r : R) (after : M) : Type 0 where
   pub answers : r ≡ answer
   pub holds : after ≡ memory

@@ -1,5 +1,4 @@
 // The calls on jobs: a single one, and a plan's in an order (document 01, Refusal numbers, in order of checking).
-ghost use Rattle.plan.specs.Run.{memory};
 ghost use Rattle.latch.specs.Jobs.{JobDoneC, RanC};
 
 // `single::run_job`, by its answer's number.
@@ -27,7 +26,7 @@ pub extern "C" fn latch_run(
     differences: &[i16],
     answers: &mut [u16],
 ) -> u32
-    ensures { λ r. ⌜ RanC width height (now (differences .entry)) (now (plan .entry)) (now (order .entry)) (memory width height (now (differences .entry)) (now (plane .entry)) (now (answers .entry))) (memory width height (now (differences .entry)) (now (plane .exit)) (now (answers .exit))) r ⌝ }
+    ensures { λ r. ⌜ RanC width height (now (differences .entry)) (now (plan .entry)) (now (order .entry)) (now (plane .entry)) (now (answers .entry)) (now (plane .exit)) (now (answers .exit)) r ⌝ }
 {
     plan::run(plane, width, height, plan, order, differences, answers).number()
 }

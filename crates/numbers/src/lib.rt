@@ -4,6 +4,7 @@ pub mod depth;
 pub mod dir;
 pub mod flag;
 pub mod mode;
+pub mod plan;
 pub mod plane;
 pub mod size;
 pub mod word;

@@ -7,10 +7,15 @@ use native.Mathlib.Omega.{arith}
 use lib.Dec.{ltb}
 use lib.ListN.{length, getD}
 use borrow.Author.Tests.{lt-ltb}
-use Rattle.reorder.specs.Test.{Decides, eq-decides, all-decides, allBelow}
+use Rattle.reorder.specs.Test.{Decides, allBelow}
 use Rattle.reorder.specs.Entry.{place}
-use Rattle.reorder.specs.Once.{Once, once-of-fresh, once-single, place-entry}
-use Rattle.reorder.specs.Check.{onceB, keptB, once-decides}
+use Rattle.reorder.specs.Once.{Once}
+use Rattle.reorder.specs.Check.{onceB, keptB}
+use Rattle.reorder.proofs.Test.{eq-decides, all-decides}
+use Rattle.reorder.proofs.Counts.{once-single}
+use Rattle.reorder.proofs.Places.{place-entry}
+use Rattle.reorder.proofs.Once.{once-of-fresh}
+use Rattle.reorder.proofs.Check.{once-decides}
 use Rattle.order.specs.Own.{isOwn}
 
 pub own-decides : (order : List ℕ) → Decides (isOwn order) ((k : ℕ) → k < length order → getD order k 0 ≡ k)

@@ -3,7 +3,8 @@ use mathlib.Core.Path.{_≡_, refl, _∙_}
 use mathlib.Core.Logic.{_≢_, _⊎_, inl, inr}
 use mathlib.Core.Bool.{Bool, true, false, _&&_, _||_, true≢false}
 use mathlib.Core.List.{List}
-use Prim.Native.Nat.{ℕ, zero, suc, _+_, _<_, min, max}
+use Prim.Native.Nat.{ℕ, zero, suc, _+_, _≤_, _<_, min, max}
+use native.Mathlib.Decide.{ℕ-discrete}
 use native.Mathlib.Omega.{arith}
 use lib.Dec.{ltb}
 use lib.IntN.{ℤ, pos}
@@ -12,7 +13,7 @@ use lib.Seq.{getD-set-same, getD-set-other}
 use borrow.Author.Tests.{ltb-true, lt-ltb, le-ltb}
 use Rattle.zint.proofs.Range.{and-both}
 use Rattle.reorder.specs.Rect.{Rect, meetB}
-use Rattle.order.specs.Sides.{sidesOf, boundsAt, overlap, noted}
+use Rattle.order.specs.Sides.{sidesOf, boundsAt, overlap, met, anyMet, noted}
 use Rattle.order.specs.declared.sides.Sides.{Sides}
 
 pub neither : (a b : Bool) → (a || b) ≡ false → (a ≡ false) × (b ≡ false)
@@ -94,3 +95,11 @@ stop false b c d e = refl
 pub overlap-none : (A : Rect) → overlap (sidesOf (record { x = 0; y = 0; w = 0; h = 0 })) (sidesOf A) ≡ false
 unfolding overlap
 overlap-none A = stop (ltb 0 (A .x + A .w)) (ltb (A .x) 0) (ltb 0 (A .y + A .h)) (ltb (A .y) 0) (le-ltb (A .x) 0 (omega arith))
+
+-- where no row of a part overlaps, none of its rows does
+pub any-none : (lists : List ℤ) (s : Sides) (from n : ℕ) → anyMet lists s from n ≡ false → (j : ℕ) → from ≤ j → j < from + n → met lists j s ≡ false
+unfolding anyMet
+any-none lists s from zero e j l h = absurd (omega arith)
+any-none lists s from (suc n) e j l h =
+    let t = neither (anyMet lists s from n) (met lists (from + n) s) e in
+    elim (ℕ-discrete j (from + n)) [ yes q ↦ rw q (t .1) | no nq ↦ any-none lists s from n (t .0) j l (omega arith) ]

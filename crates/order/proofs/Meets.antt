@@ -4,7 +4,9 @@ use mathlib.Core.Logic.{_⊎_, inl, inr, ⊎-elim, ⊎-map}
 use mathlib.Core.Bool.{Bool, true, false, _||_, or-comm, true≢false}
 use mathlib.Core.List.{[], _∷_}
 use Prim.Native.Nat.{ℕ}
-use Rattle.reorder.specs.Rect.{In, InAny, meetB, meet-decides, crossB, clashB, clash-decides}
+use Rattle.reorder.specs.Rect.{In, InAny, meetB, crossB, clashB}
+use Rattle.reorder.proofs.Rect.{meet-decides}
+use Rattle.reorder.proofs.Cross.{clash-decides}
 use Rattle.edges.specs.declared.spec.IntraRefSpec.{IntraRefSpec}
 use Rattle.job.specs.Row.{Row, specOf}
 use Rattle.job.specs.Rules.{stands}

@@ -5,14 +5,16 @@ use mathlib.Core.Bool.{true, false}
 use mathlib.Core.List.{List}
 use Prim.Native.Nat.{ℕ, _*_, _<_}
 use lib.ListN.{length, getD}
-use Rattle.reorder.specs.Test.{Decides, fails}
-use Rattle.reorder.specs.Jobs.{Jobs, Clash}
+use Rattle.reorder.specs.Test.{Decides}
 use Rattle.reorder.specs.Once.{Once}
-use Rattle.reorder.specs.Rect.{clash-decides}
+use Rattle.reorder.specs.Jobs.{Jobs, Clash}
+use Rattle.reorder.specs.Order.{Kept}
 use Rattle.reorder.specs.Canvas.{plane}
 use Rattle.reorder.specs.RectJobs.{jobsOf}
-use Rattle.reorder.specs.Order.{Kept, kept-of-passed, not-kept}
-use Rattle.reorder.specs.Check.{kept-decides}
+use Rattle.reorder.proofs.Test.{fails}
+use Rattle.reorder.proofs.Kept.{kept-of-passed, not-kept}
+use Rattle.reorder.proofs.Check.{kept-decides}
+use Rattle.reorder.proofs.Cross.{clash-decides}
 use Rattle.job.specs.Row.{Row, rowAt}
 use Rattle.job.specs.Rects.{readsOf, writesOf, clashOf}
 use Rattle.job.proofs.Exact.{reads-wide, writes-wide}

@@ -6,7 +6,8 @@ use Prim.Native.Nat.{ℕ, _+_, _-_, min, max}
 use native.Mathlib.Omega.{arith}
 use borrow.Author.Tests.{le-ltb}
 use Rattle.edges.specs.declared.spec.IntraRefSpec.{IntraRefSpec}
-use Rattle.reorder.specs.Rect.{Rect, meetB, meetAnyB, crossB, cross-one}
+use Rattle.reorder.specs.Rect.{Rect, meetB, meetAnyB, crossB}
+use Rattle.reorder.proofs.Cross.{cross-one}
 use Rattle.job.specs.Rects.{rectIf, runsOf}
 use Rattle.job.specs.Touches.{blockAt}
 

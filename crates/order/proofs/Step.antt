@@ -9,8 +9,9 @@ use native.Mathlib.Decide.{ℕ-discrete, decLt}
 use native.Mathlib.Omega.{arith}
 use lib.IntN.{ℤ}
 use lib.ListN.{length}
-use Rattle.reorder.specs.Entry.{place, place-lt}
-use Rattle.reorder.specs.Once.{entry-place}
+use Rattle.reorder.specs.Entry.{place}
+use Rattle.reorder.proofs.Entry.{place-lt}
+use Rattle.reorder.proofs.Places.{entry-place}
 use Rattle.job.specs.Row.{rowAt}
 use Rattle.job.specs.Rects.{clashOf}
 use Rattle.order.specs.Rules.{isKept}

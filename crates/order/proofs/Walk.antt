@@ -6,9 +6,10 @@ use Prim.Native.Nat.{ℕ, _+_, _≤_, _<_}
 use native.Mathlib.Omega.{arith}
 use lib.IntN.{ℤ, pos}
 use lib.ListN.{length, getD, replicate}
-use Rattle.reorder.specs.Once.{Once, Fresh, fresh-of-once}
+use Rattle.reorder.specs.Once.{Once, Fresh}
 use Rattle.reorder.specs.Rect.{Rect}
-use Rattle.reorder.specs.Check.{once-decides}
+use Rattle.reorder.proofs.Once.{fresh-of-once}
+use Rattle.reorder.proofs.Check.{once-decides}
 use Rattle.job.specs.Row.{rowAt}
 use Rattle.job.specs.Rects.{clashOf}
 use Rattle.order.specs.Rules.{isKept}

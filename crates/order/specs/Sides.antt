@@ -1,8 +1,8 @@
 -- The lists of bounds that an order is tested with: of 1,024 rows, the first columns, the columns past the last, the first rows, the rows past the
 -- last, in four parts of one list. A row that is not noted has zeros.
-use mathlib.Core.Bool.{Bool, _&&_}
+use mathlib.Core.Bool.{Bool, false, _&&_, _||_}
 use mathlib.Core.List.{List}
-use Prim.Native.Nat.{ℕ, _+_}
+use Prim.Native.Nat.{ℕ, zero, suc, _+_}
 use lib.IntN.{ℤ, pos}
 use lib.Signed.{ltZ}
 use lib.ListN.{getD, set}
@@ -37,6 +37,11 @@ overlap t s = ltZ (t .x0) (s .x1) && ltZ (s .x0) (t .x1) && ltZ (t .y0) (s .y1) 
 
 abbrev pub met : List ℤ → ℕ → Sides → Bool
 met lists j s = overlap (boundsAt lists j) s
+
+-- any of n rows from `from` on overlaps
+unfoldable pub anyMet : List ℤ → Sides → ℕ → ℕ → Bool
+anyMet lists s from zero = false
+anyMet lists s from (suc n) = anyMet lists s from n || met lists (from + n) s
 
 -- the bounds s in row j of the lists
 unfoldable pub noted : List ℤ → ℕ → Sides → List ℤ

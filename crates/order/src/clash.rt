@@ -24,7 +24,7 @@ pub fn square(s: IntraRefSpec) -> Rect
     }
 }
 
-// The samples above that are available, and those to the right.
+// Whether a rectangle meets the samples above that are available, or those to the right.
 fn meets_above(a: Rect, s: IntraRefSpec) -> bool
     requires { ⌜ Small a × Near s ⌝ }
     ensures { λ r. ⌜ r ≡ (meetB (rectOf a) (rectIf (s .«have_above») (s .x) (s .y - 1) (min (s .b) (s .«available_above»)) 1) || meetB (rectOf a) (rectIf (s .«have_above») (s .x + s .b) (s .y - 1) (min (s .«top_right») (s .b)) 1)) ⌝ }
@@ -43,7 +43,7 @@ fn meets_above(a: Rect, s: IntraRefSpec) -> bool
     near | far
 }
 
-// The same at the left.
+// Whether it meets the samples at the left that are available, or those below them.
 fn meets_left(a: Rect, s: IntraRefSpec) -> bool
     requires { ⌜ Small a × Near s ⌝ }
     ensures { λ r. ⌜ r ≡ (meetB (rectOf a) (rectIf (s .«have_left») (s .x - 1) (s .y) 1 (min (s .b) (s .«available_left»))) || meetB (rectOf a) (rectIf (s .«have_left») (s .x - 1) (s .y + s .b) 1 (min (s .«bottom_left») (s .b)))) ⌝ }
@@ -62,7 +62,7 @@ fn meets_left(a: Rect, s: IntraRefSpec) -> bool
     near | far
 }
 
-// The corner.
+// Whether it meets the corner's sample.
 fn meets_corner(a: Rect, s: IntraRefSpec) -> bool
     requires { ⌜ Small a × Near s ⌝ }
     ensures { λ r. ⌜ r ≡ meetB (rectOf a) (rectIf (s .«have_above» && s .«have_left») (s .x - 1) (s .y - 1) 1 1) ⌝ }

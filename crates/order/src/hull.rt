@@ -19,7 +19,7 @@ fn one(there: bool) -> usize
     if there { 1 } else { 0 }
 }
 
-// And the samples past the block.
+// How many samples past the block are read along a neighbour: none if it is missing.
 fn past(there: bool, more: usize, b: usize) -> usize
     ensures { λ r. ⌜ r ≡ past there more b ⌝ }
 {
@@ -42,7 +42,7 @@ fn hull(s: IntraRefSpec) -> Rect
     }
 }
 
-// Nothing: a row without a sample.
+// The bounds of an empty rectangle.
 fn none() -> Sides
     ensures { λ r. ⌜ r ≡ sidesOf (record { x = 0; y = 0; w = 0; h = 0 }) ⌝ }
 {

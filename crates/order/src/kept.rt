@@ -2,13 +2,11 @@
 // have run. Rows that have not run, and rows that fail 1 to 7, have no bounds in the lists. In the plan's own order nothing is compared.
 use crate::hull;
 use crate::pair;
-use crate::rect;
 use crate::sides;
 use crate::window;
 use job::row;
 ghost use mathlib.Core.Path.{_≡_};
 ghost use Prim.Native.Nat.{_+_, _*_, _≤_};
-ghost use lib.ListN.{length};
 ghost use Rattle.order.specs.Rules.{isKept};
 ghost use Rattle.order.specs.Window.{Rows, Passed, Walk, Blank};
 
@@ -61,7 +59,7 @@ fn kept_with(
         if pass(width, height, n, plan, i, top, blocks, hulls) {
             return false;
         }
-        top = rect::most(top, i + 1);
+        top = pick::most(top, i + 1);
         k += 1;
     }
     true

@@ -36,7 +36,7 @@ fn clashes(width: usize, height: usize, n: usize, one: &[u16], two: &[u16]) -> b
     there | back
 }
 
-// The same of the rows i and j of a plan.
+// Whether rows i and j of a plan clash.
 pub fn rows_clash(width: usize, height: usize, n: usize, plan: &[u16], i: usize, j: usize) -> bool
     requires { ⌜ (16 * i + 16 ≤ length (now plan)) × (16 * j + 16 ≤ length (now plan)) ⌝ }
     ensures { λ r. ⌜ r ≡ clashOf width height n (rowAt (now (plan .entry)) i) (rowAt (now (plan .entry)) j) ⌝ }

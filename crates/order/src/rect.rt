@@ -1,6 +1,5 @@
 // Rectangles of the plane's samples.
 ghost use mathlib.Core.Path.{_≡_};
-ghost use Prim.Native.Nat.{max};
 ghost use Rattle.reorder.specs.Rect.{meetB};
 ghost use Rattle.order.specs.Rects.{rectOf, Small};
 
@@ -12,20 +11,13 @@ pub struct Rect {
     pub h: usize,
 }
 
-// The larger of two.
-pub fn most(a: usize, b: usize) -> usize
-    ensures { λ r. ⌜ r ≡ max a b ⌝ }
-{
-    if a < b { b } else { a }
-}
-
 // Whether two rectangles share a sample.
 pub fn meet(a: Rect, b: Rect) -> bool
     requires { ⌜ Small a × Small b ⌝ }
     ensures { λ r. ⌜ r ≡ meetB (rectOf a) (rectOf b) ⌝ }
 {
-    if most(a.x, b.x) < pick::least(a.x + a.w, b.x + b.w) {
-        most(a.y, b.y) < pick::least(a.y + a.h, b.y + b.h)
+    if pick::most(a.x, b.x) < pick::least(a.x + a.w, b.x + b.w) {
+        pick::most(a.y, b.y) < pick::least(a.y + a.h, b.y + b.h)
     } else {
         false
     }

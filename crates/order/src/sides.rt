@@ -1,11 +1,10 @@
 // Lists of bounds, four for 1,024 rows in one list of 4,096: 16-bit numbers that are compared eight at a time.
 use crate::rect::Rect;
 ghost use mathlib.Core.Path.{_≡_};
-ghost use mathlib.Core.Bool.{false};
-ghost use Prim.Native.Nat.{ℕ, _+_, _≤_, _<_};
+ghost use Prim.Native.Nat.{_+_, _-_, _≤_, _<_};
 ghost use lib.ListN.{length};
 ghost use Rattle.order.specs.Rects.{rectOf};
-ghost use Rattle.order.specs.Sides.{sidesOf, met, noted};
+ghost use Rattle.order.specs.Sides.{sidesOf, met, anyMet, noted};
 
 // The first column and the one past the last, the first row and the one past the last.
 pub struct Sides {
@@ -42,10 +41,10 @@ pub fn meets_at(lists: &[i16], j: usize, s: Sides) -> bool
     (x0 < s.x1) & (s.x0 < x1) & (y0 < s.y1) & (s.y0 < y1)
 }
 
-// Whether any of the rows does: no branch, so that eight rows are compared at a time.
+// Whether any of the rows from `from` up to `to` overlaps it: no branch, so that eight rows are compared at a time.
 pub fn any_meets(lists: &[i16], from: usize, to: usize, s: Sides) -> bool
     requires { ⌜ (length (now lists) ≡ 4096) × (to ≤ 1024) ⌝ }
-    ensures { λ r. ⌜ (r ≡ false → (j : ℕ) → from ≤ j → j < to → met (now (lists .entry)) j s ≡ false) ⌝ }
+    ensures { λ r. ⌜ r ≡ anyMet (now (lists .entry)) s from (to - from) ⌝ }
 {
     let mut hit = false;
     let mut j = from;

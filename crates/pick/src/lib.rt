@@ -1,13 +1,20 @@
 // One of two numbers.
 ghost use mathlib.Core.Path.{_≡_};
 ghost use mathlib.Core.Bool.{cond};
-ghost use Prim.Native.Nat.{min};
+ghost use Prim.Native.Nat.{min, max};
 
 // The smaller of two.
 pub fn least(a: usize, b: usize) -> usize
     ensures { λ r. ⌜ r ≡ min a b ⌝ }
 {
     if a < b { a } else { b }
+}
+
+// The larger of two.
+pub fn most(a: usize, b: usize) -> usize
+    ensures { λ r. ⌜ r ≡ max a b ⌝ }
+{
+    if a < b { b } else { a }
 }
 
 // The first or the second, without a branch.

@@ -15,13 +15,14 @@ use Rattle.reorder.specs.Test.{allBelow}
 use Rattle.reorder.specs.Entry.{count, place}
 use Rattle.reorder.specs.Rect.{clashB, crossB, meetAnyB, meetB}
 use Rattle.reorder.specs.Check.{onceB, keptB}
-use Rattle.job.specs.Mode.{namedMode, modeOf, isMode}
+use Rattle.numbers.specs.Mode.{namedMode}
+use Rattle.job.specs.Mode.{rowMode, isMode}
 use Rattle.job.specs.Rules.{hasDifferences, rowAnswer, stands}
 use Rattle.job.specs.Rects.{readsOf, writesOf, clashOf}
 use Rattle.order.specs.Rules.{isOnce, isKept}
 use Rattle.plan.specs.Rules.{isPlan, runAnswer}
 
--- a block of 4 with no neighbours, at column x and of side B; and one whose left neighbour is there
+-- a block of side B with no neighbours, at column x; and one whose left neighbour is there
 abbrev alone : ℕ → ℕ → List ℕ
 alone x B = x ∷ 0 ∷ B ∷ 8 ∷ 0 ∷ 0 ∷ 0 ∷ 0 ∷ 0 ∷ 0 ∷ 0 ∷ 0 ∷ 128 ∷ 0 ∷ 0 ∷ 0 ∷ []
 
@@ -36,5 +37,5 @@ answerOf B order = runAnswer 16 4 64 16 (alone 0 B ++ (beside 4 ++ alone 12 4)) 
 -- touches nothing
 pub cases : (answerOf 4 (0 ∷ 1 ∷ 2 ∷ []) ∷ answerOf 4 (2 ∷ 0 ∷ 1 ∷ []) ∷ answerOf 4 (1 ∷ 0 ∷ 2 ∷ []) ∷ answerOf 4 (0 ∷ 0 ∷ 2 ∷ []) ∷ answerOf 5 (1 ∷ 0 ∷ 2 ∷ []) ∷ [])
     ≡ (Done ∷ Done ∷ PairTurned ∷ NotEachOnce ∷ Done ∷ [])
-unfolding runAnswer isPlane isPlan isOnce isKept onceB keptB allBelow count place clashOf clashB crossB meetAnyB meetB readsOf writesOf stands rowAnswer isSize isDepth isMode modeOf namedMode isDir isDelta noStray isSet isInside hasNeighbours isReach isBase hasDifferences isDone
+unfolding runAnswer isPlane isPlan isOnce isKept onceB keptB allBelow count place clashOf clashB crossB meetAnyB meetB readsOf writesOf stands rowAnswer isSize isDepth isMode rowMode namedMode isDir isDelta noStray isSet isInside hasNeighbours isReach isBase hasDifferences isDone
 cases = refl

@@ -13,10 +13,13 @@ use Rattle.numbers.specs.declared.answer.Answer.{Answer}
 use Rattle.numbers.specs.declared.answer.Answer.the-variants.{Done, NotEachOnce, PairTurned}
 use Rattle.edges.specs.Rules.{isPlane}
 use Rattle.ladder.proofs.Ladder.{all-kept}
-use Rattle.reorder.specs.Test.{Decides, fails}
+use Rattle.reorder.specs.Test.{Decides}
 use Rattle.reorder.specs.Once.{Once}
-use Rattle.reorder.specs.Order.{Kept, Accepted, run, upFrom, plan-accepted}
-use Rattle.reorder.specs.Swap.{swapped, length-swapped, swap-accepted}
+use Rattle.reorder.specs.Order.{Kept, Accepted, run, upFrom}
+use Rattle.reorder.specs.Swap.{swapped}
+use Rattle.reorder.proofs.Test.{fails}
+use Rattle.reorder.proofs.Own.{plan-accepted}
+use Rattle.reorder.proofs.Swap.{length-swapped, swap-accepted}
 use Rattle.job.specs.Row.{rowAt}
 use Rattle.job.specs.Rects.{clashOf}
 use Rattle.single.specs.Jobs.{jobs}

@@ -1,31 +1,28 @@
 -- A run in an accepted order ends as the plan's own order does: the same plane and the same answers. Accepted is exact: by the samples that the jobs
 -- read and write. Assumes nothing.
 use mathlib.Core.Path.{_≡_, sym, _∙_}
-use mathlib.Core.Logic.{_↔_}
-use mathlib.Core.Bool.{Bool, true, _&&_}
+use mathlib.Core.Bool.{_&&_}
 use mathlib.Core.List.{List}
 use Prim.Native.Nat.{ℕ, _*_, _%_, _≤_}
 use native.Mathlib.Omega.{arith}
 use lib.Dec.{leb, eqb}
 use lib.IntN.{ℤ}
-use lib.Ieee.{Float}
 use lib.ListN.{length}
 use borrow.Author.Tests.{eqb-true, leb-true}
 use Rattle.numbers.specs.declared.answer.Answer.{Answer}
 use Rattle.numbers.specs.declared.answer.Answer.the-variants.{Done}
 use Rattle.zint.proofs.Range.{and-both}
-use Rattle.ladder.specs.Promise.{lent, Promise}
 use Rattle.ladder.proofs.Ladder.{all-kept}
 use Rattle.ladder.proofs.Promise.{lent-done}
 use Rattle.edges.specs.Rules.{inRange, isPlane}
 use Rattle.reorder.specs.Test.{Decides}
-use Rattle.reorder.specs.Jobs.{Clash}
-use Rattle.reorder.specs.Once.{Once, fresh-of-once}
-use Rattle.reorder.specs.Order.{Sheet, Kept, Accepted, run, upFrom, reorder}
-use Rattle.reorder.specs.Check.{onceB, keptB, once-decides, kept-decides}
+use Rattle.reorder.specs.Once.{Once}
+use Rattle.reorder.specs.Order.{Kept, Accepted}
+use Rattle.reorder.proofs.Once.{fresh-of-once}
+use Rattle.reorder.proofs.Reorder.{reorder}
+use Rattle.reorder.proofs.Check.{once-decides, kept-decides}
 use Rattle.job.specs.Row.{rowAt}
 use Rattle.single.specs.Jobs.{jobs}
-use Rattle.job.specs.Rects.{clashOf}
 use Rattle.single.proofs.Clash.{clash-exact}
 use Rattle.single.proofs.Laws.{job-laws}
 use Rattle.order.specs.Rules.{jobsIn, isOnce, isKept}
@@ -69,6 +66,7 @@ module _ (W H : ℕ) (differences : List ℤ) (plan order : List ℕ) where
         accepted = record { once = once-exact .0 (all .1 .1 .0); kept = kept-exact .0 (all .1 .1 .1 .0) };
       }
 
+  -- "A run that only ever works in plan order does not settle demand 3: its equality is shown of the definitions." (document 01, Reading strength).
   -- THE THEOREM. The order of a run that is not refused ends with the plane and the answers of the plan's own order.
   pub any-order : (before : Memory W H differences) → answerFor W H differences plan order before ≡ Done
       → inOrder W H differences plan order before ≡ inOrder W H differences plan (planOrder plan) before

@@ -1,7 +1,7 @@
 -- One more entry of the order is done. Assumes nothing.
 use mathlib.Core.Path.{_≡_, refl, sym, _∙_, ap}
-use mathlib.Core.List.{List, []}
-use Prim.Native.Nat.{ℕ, suc, _+_, _≤_, _<_}
+use mathlib.Core.List.{List}
+use Prim.Native.Nat.{ℕ, _+_, _<_}
 use native.Mathlib.Numerals.{add-one}
 use native.Mathlib.Omega.{arith}
 use lib.IntN.{ℤ}
@@ -11,7 +11,8 @@ use lib.Seq.{take-all}
 use Rattle.numbers.specs.Answer.{answerNumber}
 use Rattle.numbers.specs.declared.answer.Answer.{Answer}
 use Rattle.ladder.specs.Promise.{Promise}
-use Rattle.reorder.specs.Order.{Sheet, doRow, run, run-next}
+use Rattle.reorder.specs.Order.{doRow, run}
+use Rattle.reorder.proofs.Run.{run-next}
 use Rattle.job.specs.Row.{Row, rowAt}
 use Rattle.job.specs.Rules.{jobAnswer}
 use Rattle.single.specs.Done.{jobDone}

@@ -10,7 +10,7 @@ use Rattle.ladder.specs.Ladder.{Rule, _else_, ladder}
 use Rattle.edges.specs.Rules.{isPlane}
 use Rattle.order.specs.Rules.{jobsIn, isOnce, isKept}
 
--- "plan not whole rows or above 1,024 jobs; order or answer list not one entry a job"
+-- "A plan has 0 to 1,024 jobs." 21: "plan not whole rows or above 1,024 jobs; order or answer list not one entry a job"
 unfoldable pub isPlan : List ℕ → ℕ → ℕ → Bool
 isPlan plan order answers = eqb (length plan % 16) 0 && leb (jobsIn plan) 1024 && eqb order (jobsIn plan) && eqb answers (jobsIn plan)
 

@@ -41,6 +41,16 @@ Ran W H differences plan order before after r =
     (lent (answerFor W H differences plan order before) (inOrder W H differences plan (planOrder plan) before) before)
     r after
 
+-- the same of a plane and an answer list, before and after
+abbrev pub RanOver : (W H : ℕ) (differences : List ℤ) (plan order : List ℕ) (plane : List Float) (answers : List ℕ) (plane′ : List Float) (answers′ : List ℕ) → Answer → Type 0
+RanOver W H differences plan order plane answers plane′ answers′ r =
+    Ran W H differences plan order (memory W H differences plane answers) (memory W H differences plane′ answers′) r
+
+-- the rows that an order names are done, one after the other
+abbrev pub DoneInOrder : (W H : ℕ) (differences : List ℤ) (plan order : List ℕ) (plane : List Float) (answers : List ℕ) (plane′ : List Float) (answers′ : List ℕ) → Type 0
+DoneInOrder W H differences plan order plane answers plane′ answers′ =
+    memory W H differences plane′ answers′ ≡ inOrder W H differences plan order (memory W H differences plane answers)
+
 -- what doing rows asks: a plane, and an order that names rows of the plan which have a place in the answer list
 pub record Rows (W H samples : ℕ) (plan order : List ℕ) (answers : ℕ) : Type 0 where
   pub is-plane : isPlane W H samples ≡ true

@@ -4,8 +4,7 @@ pub mod rows;
 pub mod rules;
 
 use numbers::answer::Answer;
-ghost use lib.ListN.{length};
-ghost use Rattle.plan.specs.Run.{memory, Ran};
+ghost use Rattle.plan.specs.Run.{RanOver};
 
 // Done, with the jobs done in the order given and each job's number at its plan row in `answers`; or a refusal, with nothing written.
 pub fn run(
@@ -17,7 +16,7 @@ pub fn run(
     differences: &[i16],
     answers: &mut [u16],
 ) -> Answer
-    ensures { λ r. ⌜ Ran width height (now (differences .entry)) (now (plan .entry)) (now (order .entry)) (memory width height (now (differences .entry)) (now (plane .entry)) (now (answers .entry))) (memory width height (now (differences .entry)) (now (plane .exit)) (now (answers .exit))) r ⌝ }
+    ensures { λ r. ⌜ RanOver width height (now (differences .entry)) (now (plan .entry)) (now (order .entry)) (now (plane .entry)) (now (answers .entry)) (now (plane .exit)) (now (answers .exit)) r ⌝ }
 {
     let answer = rules::refused(
         plane.len(),

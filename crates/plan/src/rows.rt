@@ -2,9 +2,9 @@
 use single::work;
 ghost use mathlib.Core.Path.{_≡_};
 ghost use lib.ListN.{length};
-ghost use Rattle.plan.specs.Run.{memory, inOrder, Rows};
+ghost use Rattle.plan.specs.Run.{DoneInOrder, Rows};
 
-// The rows that the order names, one after the other. The edges and the predicted block have their room here, once for all jobs.
+// The rows that the order names, one after the other, with room for the edges and a predicted block.
 fn run_rows(
     plane: &mut [f32],
     width: usize,
@@ -19,7 +19,7 @@ fn run_rows(
 )
     requires { ⌜ Rows width height (length (now plane)) (now plan) (now order) (length (now answers)) ⌝ }
     requires { ⌜ (length (now above) ≡ 128) × (length (now left) ≡ 128) × (length (now out) ≡ 4096) ⌝ }
-    ensures { λ _. ⌜ memory width height (now (differences .entry)) (now (plane .exit)) (now (answers .exit)) ≡ inOrder width height (now (differences .entry)) (now (plan .entry)) (now (order .entry)) (memory width height (now (differences .entry)) (now (plane .entry)) (now (answers .entry))) ⌝ }
+    ensures { λ _. ⌜ DoneInOrder width height (now (differences .entry)) (now (plan .entry)) (now (order .entry)) (now (plane .entry)) (now (answers .entry)) (now (plane .exit)) (now (answers .exit)) ⌝ }
 {
     let mut k = 0;
     while k < order.len() {
@@ -41,7 +41,7 @@ fn run_rows(
     }
 }
 
-// The same.
+// The rows in an order, with that room made once for all jobs.
 pub fn run_order(
     plane: &mut [f32],
     width: usize,
@@ -52,7 +52,7 @@ pub fn run_order(
     answers: &mut [u16],
 )
     requires { ⌜ Rows width height (length (now plane)) (now plan) (now order) (length (now answers)) ⌝ }
-    ensures { λ _. ⌜ memory width height (now (differences .entry)) (now (plane .exit)) (now (answers .exit)) ≡ inOrder width height (now (differences .entry)) (now (plan .entry)) (now (order .entry)) (memory width height (now (differences .entry)) (now (plane .entry)) (now (answers .entry))) ⌝ }
+    ensures { λ _. ⌜ DoneInOrder width height (now (differences .entry)) (now (plan .entry)) (now (order .entry)) (now (plane .entry)) (now (answers .entry)) (now (plane .exit)) (now (answers .exit)) ⌝ }
 {
     let mut above = [0i32; 128];
     let mut left = [0i32; 128];

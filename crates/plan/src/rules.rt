@@ -1,15 +1,12 @@
 // "A run tests 20 to 23" (document 01, Refusal numbers, in order of checking).
 use numbers::answer::Answer;
+use numbers::plan::Plan;
 use numbers::word::Word;
 use order::kept;
 use order::once;
 use order::own;
 ghost use mathlib.Core.Path.{_≡_};
-ghost use lib.ListN.{length};
 ghost use Rattle.plan.specs.Rules.{isPlan, runAnswer};
-
-// A plan has at most so many jobs.
-pub const MOST: usize = 1024;
 
 // 21: whole rows, at most 1,024 of them, with one entry a job in the order and in the answer list.
 fn is_plan(plan: &[u16], order: usize, answers: usize) -> bool
@@ -19,7 +16,7 @@ fn is_plan(plan: &[u16], order: usize, answers: usize) -> bool
     if plan.len() % Word::COUNT != 0 {
         return false;
     }
-    if MOST < n {
+    if Plan::MOST < n {
         return false;
     }
     if order != n {

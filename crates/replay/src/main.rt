@@ -3,6 +3,7 @@ mod case;
 mod colour;
 mod derived;
 mod directed;
+mod lent;
 mod list;
 mod predicted;
 mod refs;

@@ -2,44 +2,11 @@
 // and the plane hold afterwards.
 use crate::case;
 use crate::colour;
+use crate::lent;
+use crate::lent::Sizes;
 use crate::room;
 use crate::words;
 use numbers::answer::Answer;
-
-// The sizes of a case's plane and lists, its answer's number, and the place after them.
-struct Sizes {
-    width: usize,
-    height: usize,
-    samples: usize,
-    words: usize,
-    order: usize,
-    differences: usize,
-    answers: usize,
-    number: u32,
-    next: usize,
-}
-
-fn read_sizes(s: &[u8], at: usize) -> Sizes {
-    let width = text::number(s, at);
-    let height = text::number(s, width.next);
-    let samples = text::number(s, height.next);
-    let words = text::number(s, samples.next);
-    let order = text::number(s, words.next);
-    let differences = text::number(s, order.next);
-    let answers = text::number(s, differences.next);
-    let number = text::number(s, answers.next);
-    Sizes {
-        width: width.value as usize,
-        height: height.value as usize,
-        samples: samples.value as usize,
-        words: words.value as usize,
-        order: order.value as usize,
-        differences: differences.value as usize,
-        answers: answers.value as usize,
-        number: number.value,
-        next: number.next,
-    }
-}
 
 // The call's answer, on the lists' first entries.
 fn answer(
@@ -76,8 +43,8 @@ fn answer(
     )
 }
 
-// Whether the first entries of answers and plane are those that stand in the list at a place. The two other lists are room to work in.
-fn left_as(
+// Whether answers and plane begin as the list has it at a place; the last two lists are room for what it has.
+fn same_as(
     s: &[u8],
     at: usize,
     answers: &[u16],
@@ -99,33 +66,23 @@ fn left_as(
     words::same_words(answers, due_answers, na) && case::same_samples(plane, due_plane, np)
 }
 
-// Fills the lists' first entries, and returns the place after them: the text's end where a list has no room.
-fn read_lists(
-    s: &[u8],
-    z: Sizes,
-    plane: &mut [f32],
-    plan: &mut [u16],
-    order: &mut [u16],
-    differences: &mut [i16],
-) -> usize {
-    let start = 0;
-    let samples = z.samples;
-    let nw = z.words;
-    let no = z.order;
-    let nd = z.differences;
-    if plane.len() < samples || plan.len() < nw {
-        return s.len();
-    }
-    if order.len() < no || differences.len() < nd {
-        return s.len();
-    }
-    let past_plane = text::whole_samples(s, z.next, &mut plane[start..samples]);
-    let past_plan = words::words(s, past_plane, &mut plan[start..nw]);
-    let past_order = words::words(s, past_plan, &mut order[start..no]);
-    words::differences(s, past_order, &mut differences[start..nd])
+// Whether the first entries of answers and plane are those that stand in the list at a place.
+fn left_as(s: &[u8], at: usize, answers: &[u16], na: usize, plane: &[f32], np: usize) -> bool {
+    let mut due_answers = room::words();
+    let mut due_plane = room::plane();
+    same_as(
+        s,
+        at,
+        answers,
+        na,
+        plane,
+        np,
+        &mut due_answers,
+        &mut due_plane,
+    )
 }
 
-// Whether a run's case agrees. The seven lists are room to work in.
+// Whether a run's case agrees. The five lists are room to work in.
 fn run_agrees(
     s: &[u8],
     at: usize,
@@ -134,24 +91,13 @@ fn run_agrees(
     order: &mut [u16],
     differences: &mut [i16],
     answers: &mut [u16],
-    due_answers: &mut [u16],
-    due_plane: &mut [f32],
 ) -> bool {
-    let z = read_sizes(s, at);
-    let past = read_lists(s, z, plane, plan, order, differences);
+    let z = lent::read_sizes(s, at);
+    let past = lent::read_lists(s, z, plane, plan, order, differences);
     if answer(z, plane, plan, order, differences, answers).number() != z.number {
         return false;
     }
-    left_as(
-        s,
-        past,
-        answers,
-        z.answers,
-        plane,
-        z.samples,
-        due_answers,
-        due_plane,
-    )
+    left_as(s, past, answers, z.answers, plane, z.samples)
 }
 
 // Whether the case at a place agrees.
@@ -161,8 +107,6 @@ pub fn agrees(s: &[u8], at: usize) -> bool {
     let mut order = room::words();
     let mut differences = room::differences();
     let mut answers = room::unanswered();
-    let mut due_answers = room::words();
-    let mut due_plane = room::plane();
     run_agrees(
         s,
         at,
@@ -171,7 +115,5 @@ pub fn agrees(s: &[u8], at: usize) -> bool {
         &mut order,
         &mut differences,
         &mut answers,
-        &mut due_answers,
-        &mut due_plane,
     )
 }

@@ -1,13 +1,13 @@
 -- The predicted block of a job that is not refused is of whole numbers, and what is written of it with the differences is what the definition names.
 -- Assumes nothing.
-use mathlib.Core.Path.{_≡_, refl, sym, _∙_, ap, subst}
+use mathlib.Core.Path.{_≡_, sym, _∙_, ap, subst}
 use mathlib.Core.Bool.{true}
 use mathlib.Core.List.{List}
 use Prim.Native.Nat.{ℕ, _+_, _*_, _/_, _%_, _≤_, _<_}
 use native.Mathlib.Nat.{div-add-mod', div-lt-iff-lt-mul, mod-lt}
 use native.Mathlib.Omega.{arith}
 use lib.Arith.{digits-lt}
-use lib.Dec.{T, le→leb}
+use lib.Dec.{T}
 use lib.IntN.{ℤ, pos, natAbs, _+ℤ_}
 use lib.Ieee.{Float, nan, binary32, toSigned, inSigned}
 use lib.Ieee.Back.{positive-back}

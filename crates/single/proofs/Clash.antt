@@ -6,7 +6,8 @@ use lib.IntN.{ℤ}
 use lib.ListN.{length}
 use Rattle.reorder.specs.Test.{Decides}
 use Rattle.reorder.specs.Jobs.{Hits, Clash}
-use Rattle.reorder.specs.Rect.{InAny, clash-decides}
+use Rattle.reorder.specs.Rect.{InAny}
+use Rattle.reorder.proofs.Cross.{clash-decides}
 use Rattle.job.specs.Row.{Row}
 use Rattle.job.specs.Rects.{readsOf, writesOf, clashOf}
 use Rattle.job.proofs.Exact.{reads-exact, writes-exact, reads-wide, writes-wide}

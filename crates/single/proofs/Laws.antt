@@ -15,11 +15,12 @@ use lib.Seq.{ext-getD}
 use borrow.Author.Tests.{eqb-true, eq-eqb}
 use Rattle.numbers.specs.Answer.{answerNumber, isDone}
 use Rattle.numbers.specs.declared.answer.Answer.{Answer}
-use Rattle.ladder.specs.Promise.{lent}
-use Rattle.reorder.specs.Test.{decided}
-use Rattle.reorder.specs.Jobs.{Laws, BlockLaws, laws, Agree}
-use Rattle.reorder.specs.Rect.{In, InAny, inAnyB, in-any-decides}
-use Rattle.job.specs.Row.{Row, specOf}
+use Rattle.reorder.specs.Jobs.{Laws, BlockLaws, Agree}
+use Rattle.reorder.specs.Rect.{In}
+use Rattle.reorder.proofs.Test.{decided}
+use Rattle.reorder.proofs.Blocks.{laws}
+use Rattle.reorder.proofs.Cross.{in-any-decides}
+use Rattle.job.specs.Row.{Row}
 use Rattle.job.specs.Rules.{stands, jobAnswer}
 use Rattle.job.specs.Job.{jobOf}
 use Rattle.job.specs.Touches.{blockOf, Writes}

@@ -22,15 +22,15 @@ use Rattle.numbers.proofs.Angle.{delta-small}
 use Rattle.zint.specs.Range.{inside, Edge}
 use Rattle.zint.proofs.Range.{inside-abs, inside-more}
 use Rattle.lists.specs.Block.{block}
-use Rattle.calls.specs.Direct.{Predictor}
 use Rattle.calls.proofs.Accepted.{depth-most}
 use Rattle.smooth.specs.Parts.{Entries}
 use Rattle.job.specs.Row.{Row, word}
-use Rattle.job.specs.Mode.{directedMode, namedMode, modeOf}
+use Rattle.numbers.specs.Mode.{directedMode, namedMode}
+use Rattle.job.specs.Mode.{rowMode}
 use Rattle.job.specs.Job.{modeIn}
 use Rattle.job.specs.declared.job.Job.{Job}
-use Rattle.job.specs.declared.mode.FoundMode.{FoundMode}
-use Rattle.job.specs.declared.mode.FoundMode.the-variants.{Is, NoMode}
+use Rattle.numbers.specs.declared.mode.FoundMode.{FoundMode}
+use Rattle.numbers.specs.declared.mode.FoundMode.the-variants.{Is, NoMode}
 use Rattle.single.specs.Written.{predictorBy, predictorOf}
 use Rattle.single.specs.Ready.{Turns, Ready, predictedBlock}
 
@@ -51,8 +51,8 @@ directed-turns (found-dir.Is dir) delta = go (isDelta delta) refl
 directed-turns found-dir.NoDir delta = tt
 
 -- a direction's delta is -3 to 3
-pub mode-turns : (row : Row) → Turns (modeIn (modeOf row))
-unfolding modeOf namedMode
+pub mode-turns : (row : Row) → Turns (modeIn (rowMode row))
+unfolding rowMode namedMode
 mode-turns row =
     either (noStray (word row FlagWord)) _ _
     (either (eqb m 0) _ _ tt (either (eqb m 1) _ _ tt (either (eqb m 2) _ _ tt (either (eqb m 3) _ _ tt (either (eqb m 4) _ _ (directed-turns (dirOf (word row DirectionWord)) (word row DeltaWord)) tt)))))

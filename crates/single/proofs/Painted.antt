@@ -14,11 +14,11 @@ use lib.Seq.{getD-take, getD-drop, getD-append-add, ext-getD}
 use borrow.Rule.Slice.PartMut.{putMid}
 use borrow.Author.Tests.{leb-true, ltb-true}
 use Rattle.zint.proofs.Range.{and-both}
-use Rattle.lists.specs.Fill.{tab}
 use Rattle.lists.proofs.Fill.{length-tab, tab-at, tab-same}
 use Rattle.line.proofs.Split.{below-or}
-use Rattle.reorder.specs.Test.{decided, fails}
-use Rattle.reorder.specs.Rect.{Rect, Wide, In, inB, in-decides}
+use Rattle.reorder.specs.Rect.{Rect, Wide, In, inB}
+use Rattle.reorder.proofs.Test.{decided, fails}
+use Rattle.reorder.proofs.Rect.{in-decides}
 use Rattle.single.specs.Done.{painted}
 
 module _ (W : ℕ) (R : Rect) (f : ℕ → ℕ → Float) (plane : List Float) where

@@ -1,6 +1,6 @@
 -- A single job: refused by 20 or 21, or as in a run. Assumes nothing.
 use mathlib.Core.Path.{_≡_, refl, sym, _∙_, ap}
-use mathlib.Core.Bool.{true, false, cond}
+use mathlib.Core.Bool.{Bool, true, false, cond}
 use mathlib.Core.List.{List, _++_}
 use Prim.Native.Nat.{ℕ}
 use lib.Dec.{eqb}
@@ -16,10 +16,12 @@ use Rattle.ladder.proofs.Promise.{refused}
 use Rattle.edges.specs.Rules.{isPlane}
 use Rattle.job.specs.Row.{Row, specOf}
 use Rattle.job.specs.Rules.{rowRules, sampleRules, jobAnswer}
-use Rattle.job.specs.Job.{jobOf}
-use Rattle.job.specs.Touches.{blockOf}
-use Rattle.single.specs.Written.{writtenAt}
-use Rattle.single.specs.Done.{painted, jobDone, singleAnswer, singleDone}
+use Rattle.single.specs.Done.{jobDone, singleAnswer, singleDone}
+
+-- what a refusal leaves, it leaves twice
+lent-twice : (b : Bool) (done before : List Float) → cond b (cond b done before) before ≡ cond b done before
+lent-twice true done before = refl
+lent-twice false done before = refl
 
 module _ (W H : ℕ) (differences : List ℤ) (row : Row) (plane : List Float) where
   abbrev n : ℕ
@@ -48,5 +50,5 @@ module _ (W H : ℕ) (differences : List ℤ) (row : Row) (plane : List Float) w
         λ j. cond (p j) (cond (e j) later BadPlan) BadPlane in
         record {
           answers = d .answers ∙ sym same;
-          holds = d .holds ∙ ap (λ a. lent a (painted W (blockOf row) (writtenAt W differences (jobOf row) plane) plane) plane) (sym same);
+          holds = d .holds ∙ sym (ap (λ a. lent a (jobDone W H differences row plane) plane) same ∙ lent-twice (isDone later) _ plane);
         }

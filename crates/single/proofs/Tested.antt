@@ -1,9 +1,8 @@
 -- A row that breaks none of the rules 1 to 7: its job is tested, and 8 alone is left. Assumes nothing.
-use mathlib.Core.Path.{_≡_, refl, sym, _∙_, ap, subst}
-use mathlib.Core.Bool.{Bool, true, false, cond}
+use mathlib.Core.Path.{_≡_, sym, _∙_, ap, subst}
+use mathlib.Core.Bool.{true, false, cond}
 use mathlib.Core.List.{List}
 use Prim.Native.Nat.{ℕ}
-use native.Mathlib.Omega.{arith}
 use lib.IntN.{ℤ}
 use lib.Ieee.{Float}
 use lib.ListN.{length}
@@ -21,7 +20,6 @@ use Rattle.job.specs.Rules.{hasDifferences, rowRules, rowAnswer, stands, sample
 use Rattle.job.specs.Job.{jobOf, readRow}
 use Rattle.job.specs.Touches.{blockOf}
 use Rattle.job.specs.declared.job.Job.{Job}
-use Rattle.job.specs.declared.job.FoundJob.{FoundJob}
 use Rattle.job.specs.declared.job.FoundJob.the-variants.{Is, Refused}
 use Rattle.job.proofs.Stands.{answer-then}
 use Rattle.job.proofs.Read.{read-stands, read-job, refused-stands, answer-no}

@@ -10,7 +10,7 @@ use Rattle.numbers.specs.declared.answer.Answer.{Answer}
 use Rattle.numbers.specs.declared.answer.Answer.the-variants.{BadPlane, BadPlan}
 use Rattle.lists.specs.Fill.{tab}
 use Rattle.ladder.specs.Ladder.{Rule, _else_, ladder}
-use Rattle.ladder.specs.Promise.{lent}
+use Rattle.ladder.specs.Promise.{lent, Promise}
 use Rattle.edges.specs.Rules.{isPlane}
 use Rattle.reorder.specs.Rect.{Rect, inB}
 use Rattle.job.specs.Row.{Row, specOf}
@@ -28,13 +28,22 @@ unfoldable pub jobDone : ℕ → ℕ → List ℤ → Row → List Float → Lis
 jobDone W H differences row plane =
     lent (jobAnswer W H (length differences) row plane) (painted W (blockOf row) (writtenAt W differences (jobOf row) plane) plane) plane
 
--- ---- a single job: "20, 21, then the same"
+-- ---- "a single job 20, 21, then the same"; 21: "a single job not 16 words"
 abbrev pub singleRules : ℕ → ℕ → ℕ → Row → List Float → List Rule
 singleRules W H n row plane = isPlane W H (length plane) else BadPlane ∷ eqb (length row) 16 else BadPlan ∷ (rowRules W H n row ++ sampleRules W (specOf row) plane)
 
 unfoldable pub singleAnswer : ℕ → ℕ → ℕ → Row → List Float → Answer
 singleAnswer W H n row plane = ladder (singleRules W H n row plane)
 
+-- the plane afterwards is the job's; a call that is refused leaves it
 unfoldable pub singleDone : ℕ → ℕ → List ℤ → Row → List Float → List Float
-singleDone W H differences row plane =
-    lent (singleAnswer W H (length differences) row plane) (painted W (blockOf row) (writtenAt W differences (jobOf row) plane) plane) plane
+singleDone W H differences row plane = lent (singleAnswer W H (length differences) row plane) (jobDone W H differences row plane) plane
+
+-- what a job of a run promises, and a single one, of the plane before and after
+abbrev pub JobDone : ℕ → ℕ → List ℤ → Row → List Float → List Float → Answer → Type 0
+JobDone W H differences row plane plane′ r =
+    Promise (jobAnswer W H (length differences) row plane) (jobDone W H differences row plane) r plane′
+
+abbrev pub SingleDone : ℕ → ℕ → List ℤ → Row → List Float → List Float → Answer → Type 0
+SingleDone W H differences row plane plane′ r =
+    Promise (singleAnswer W H (length differences) row plane) (singleDone W H differences row plane) r plane′

@@ -30,7 +30,7 @@ leftEdge W s plane = tab 128 (entryOf (s .b) (λ c. valueOf W plane (leftBehind 
 unfoldable pub cornerEntry : ℕ → IntraRefSpec → List Float → ℤ
 cornerEntry W s plane = valueOf W plane (cornerBehind s)
 
--- "Modes: 0 Paeth, 1 smooth, 2 smooth_v, 3 smooth_h, 4 a direction with its delta."
+-- "Modes: 0 Paeth, 1 smooth, 2 smooth_v, 3 smooth_h, 4 a direction with its delta." "Words 5, 6, 13 and 14 are looked at only in mode 4."
 abbrev pub predictorBy : Mode → Job → Predictor
 predictorBy Paeth job = paethAt
 predictorBy Smooth job = smoothAt

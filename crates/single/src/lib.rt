@@ -11,7 +11,7 @@ ghost use Prim.Native.Nat.{_*_, _≤_};
 ghost use lib.ListN.{length};
 ghost use Rattle.ladder.specs.Promise.{Promise};
 ghost use Rattle.single.specs.Granted.{Tested, readAnswer, readDone};
-ghost use Rattle.single.specs.Done.{singleAnswer, singleDone};
+ghost use Rattle.single.specs.Done.{SingleDone};
 
 // A job that 1 to 7 do not refuse, with room for its prediction: the edges have theirs here.
 fn edged(plane: &mut [f32], width: usize, job: Job, differences: &[i16], out: &mut [f32]) -> Answer
@@ -23,7 +23,7 @@ fn edged(plane: &mut [f32], width: usize, job: Job, differences: &[i16], out: &m
     work::do_read(plane, width, job, differences, &mut above, &mut left, out)
 }
 
-// The same, with a room that is not much larger than the block.
+// A job that 1 to 7 do not refuse, with a room of its size class: clearing a large one would cost more than a small job.
 fn alone(plane: &mut [f32], width: usize, job: Job, differences: &[i16]) -> Answer
     requires { ⌜ Tested width (length (now differences)) (length (now plane)) job ⌝ }
     ensures { λ r. ⌜ Promise (readAnswer width job (now (plane .entry))) (readDone width (now (differences .entry)) job (now (plane .entry))) r (now (plane .exit)) ⌝ }
@@ -53,7 +53,7 @@ pub fn run_job(
     row: &[u16],
     differences: &[i16],
 ) -> Answer
-    ensures { λ r. ⌜ Promise (singleAnswer width height (length (now (differences .entry))) (now (row .entry)) (now (plane .entry))) (singleDone width height (now (differences .entry)) (now (row .entry)) (now (plane .entry))) r (now (plane .exit)) ⌝ }
+    ensures { λ r. ⌜ SingleDone width height (now (differences .entry)) (now (row .entry)) (now (plane .entry)) (now (plane .exit)) r ⌝ }
 {
     if !edges::rules::is_plane(width, height, plane.len()) {
         return Answer::BadPlane;

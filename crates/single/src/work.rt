@@ -17,10 +17,9 @@ ghost use Rattle.numbers.specs.Depth.{isDepth, most};
 ghost use Rattle.lists.specs.Block.{block};
 ghost use Rattle.ladder.specs.Promise.{Promise};
 ghost use Rattle.edges.specs.Rules.{isPlane};
-ghost use Rattle.job.specs.Rules.{jobAnswer};
 ghost use Rattle.job.specs.Touches.{blockAt};
 ghost use Rattle.single.specs.Written.{predictedAt, writtenAt};
-ghost use Rattle.single.specs.Done.{painted, jobDone};
+ghost use Rattle.single.specs.Done.{painted, JobDone};
 ghost use Rattle.single.specs.Granted.{Tested, Granted, readAnswer, readDone};
 
 // M of the depth whose D is d.
@@ -120,7 +119,7 @@ pub fn do_job(
 ) -> Answer
     requires { ⌜ (isPlane width height (length (now plane)) ≡ true) × (length (now row) ≡ 16) ⌝ }
     requires { ⌜ (length (now above) ≡ 128) × (length (now left) ≡ 128) × (length (now out) ≡ 4096) ⌝ }
-    ensures { λ r. ⌜ Promise (jobAnswer width height (length (now (differences .entry))) (now (row .entry)) (now (plane .entry))) (jobDone width height (now (differences .entry)) (now (row .entry)) (now (plane .entry))) r (now (plane .exit)) ⌝ }
+    ensures { λ r. ⌜ JobDone width height (now (differences .entry)) (now (row .entry)) (now (plane .entry)) (now (plane .exit)) r ⌝ }
 {
     match job::rules::read_row(width, height, differences.len(), row) {
         FoundJob::Refused(answer) => answer,

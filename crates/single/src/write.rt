@@ -2,7 +2,7 @@
 ghost use mathlib.Core.Path.{_≡_};
 ghost use mathlib.Core.Bool.{true};
 ghost use Prim.Native.Nat.{_+_, _*_, _≤_};
-ghost use lib.IntN.{pos, natAbs};
+ghost use lib.IntN.{pos};
 ghost use lib.ListN.{length};
 ghost use Rattle.zint.specs.Range.{inside};
 ghost use Rattle.lists.specs.Fill.{tab};
@@ -19,7 +19,7 @@ fn clipped(x: i32, m: i32) -> i32
     pick::either(m < y, m, y)
 }
 
-// One sample.
+// A predicted sample with its difference.
 fn add(v: f32, difference: i16, m: i32) -> f32
     requires { ⌜ Whole v × (inside (pos 4095) m ≡ true) ⌝ }
     ensures { λ r. ⌜ r ≡ added m v difference ⌝ }
@@ -27,7 +27,7 @@ fn add(v: f32, difference: i16, m: i32) -> f32
     clipped(v as i32 + difference as i32, m) as f32
 }
 
-// A row.
+// A row of predicted samples with their differences.
 fn add_row(block: &[f32], differences: &[i16], m: i32, row: &mut [f32])
     requires { ⌜ (length (now row) ≤ length (now block)) × (length (now row) ≤ length (now differences)) ⌝ }
     requires { ⌜ Wholes (length (now row)) (now block) × (inside (pos 4095) m ≡ true) ⌝ }

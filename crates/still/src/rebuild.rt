@@ -82,7 +82,7 @@ fn run(
     }
 }
 
-// The same, where there is room for it; where there is none the run itself refuses.
+// The run on the first entries of plane and answers; where they are too short the run itself refuses.
 fn run_in_room(
     plane: &mut [f32],
     answers: &mut [u16],

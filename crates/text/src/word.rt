@@ -40,7 +40,7 @@ pub fn past_blanks(s: &[u8], at: usize) -> usize {
     i
 }
 
-// The same, past comments too, which go from # to the line's end.
+// The first place from `at` on where neither a blank nor a comment stands; a comment goes from # to the line's end.
 pub fn past_comments(s: &[u8], at: usize) -> usize {
     let mut i = at;
     while i < s.len() {

@@ -1,5 +1,4 @@
 -- `directed_into` meets its contract: the words' direction, delta and flags are the definition's. Assumes nothing.
-use native.Mathlib.Omega.{arith}
 use mathlib.Core.Path.{_≡_, sym, _∙_, ap}
 use mathlib.Core.Bool.{true, true≢false}
 use lib.IntN.{pos, natAbs}

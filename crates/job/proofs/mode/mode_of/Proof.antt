@@ -4,10 +4,11 @@ use borrow.Author.Tests.{not-true, not-false}
 use mathlib.Core.Path.{_≡_, sym, _∙_, ap}
 use mathlib.Core.Bool.{Bool, cond}
 use Rattle.numbers.specs.Flag.{noStray}
-use Rattle.numbers.specs.declared.word.Word.the-variants.{FlagWord, ModeWord, DirectionWord, DeltaWord}
+use Rattle.numbers.specs.declared.word.Word.the-variants.{ModeWord, DirectionWord, DeltaWord}
 use Rattle.job.specs.Row.{word}
-use Rattle.job.specs.Mode.{namedMode, modeOf}
-use Rattle.job.specs.declared.mode.FoundMode.the-variants.{NoMode}
+use Rattle.numbers.specs.Mode.{namedMode}
+use Rattle.job.specs.Mode.{rowMode}
+use Rattle.numbers.specs.declared.mode.FoundMode.the-variants.{NoMode}
 use Rattle.job.proofs.mode.mode_of.Statement.{statement}
 use Rattle.job.proofs.mode.mode_of.Tie as tie
 
@@ -17,8 +18,8 @@ module _ (c : tie.After-no-stray) where
   t = c .before .before .before
 
   by-flags : (b : Bool) → c .no-stray .result ≡ b
-      → modeOf (t .args .row .now) ≡ cond b (namedMode (word (t .args .row .now) ModeWord) (word (t .args .row .now) DirectionWord) (word (t .args .row .now) DeltaWord)) NoMode
-  unfolding modeOf
+      → rowMode (t .args .row .now) ≡ cond b (namedMode (word (t .args .row .now) ModeWord) (word (t .args .row .now) DirectionWord) (word (t .args .row .now) DeltaWord)) NoMode
+  unfolding rowMode
   by-flags b e =
       ap (λ s. cond s (namedMode (word (t .args .row .now) ModeWord) (word (t .args .row .now) DirectionWord) (word (t .args .row .now) DeltaWord)) NoMode)
       (ap noStray (sym (c .before .word .ensures)) ∙ sym (c .no-stray .ensures) ∙ e)
@@ -41,14 +42,14 @@ word-requires-3 c κs = search needs
 word-requires-4 : tie.Need-word-requires-4
 word-requires-4 c κs = search needs
 
-named-requires : tie.Need-named-requires
-named-requires c κs = search needs
+of-requires : tie.Need-of-requires
+of-requires c κs = search needs
 
 returns-2 : tie.Need-returns-2
 returns-2 c =
     let w = c .before in
     let e = w .before .before .before in
-    c .named .ensures
+    c .of .ensures
     ∙ (λ j. namedMode (w .before .before .word2 .ensures j) (w .before .word3 .ensures j) (w .word4 .ensures j))
     ∙ sym (by-flags (e .before) _ (not-false (e .before .no-stray .result) (e .if1 .left)))
 
@@ -62,5 +63,5 @@ mode-of-spec =
     word-requires-2
     word-requires-3
     word-requires-4
-    named-requires
+    of-requires
     returns-2)

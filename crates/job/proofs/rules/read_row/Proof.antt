@@ -1,7 +1,7 @@
 -- `read_row` meets its contract: each test is the ladder's, in its order, and what is read is the row's job. Assumes nothing.
 use borrow.Author.Needs.{needs}
 use borrow.Author.Tests.{not-true}
-use mathlib.Core.Path.{_≡_, refl, sym, _∙_, ap}
+use mathlib.Core.Path.{refl, sym, _∙_, ap}
 use mathlib.Core.Bool.{false}
 use Rattle.numbers.specs.Size.{isSize}
 use Rattle.numbers.specs.Depth.{isDepth}
@@ -9,12 +9,13 @@ use Rattle.numbers.specs.Answer.{isDone}
 use Rattle.numbers.specs.Flag.{flagsOf}
 use Rattle.numbers.proofs.Agree.{size-no, depth-no}
 use Rattle.edges.specs.Rules.{isInside, hasNeighbours, isBase}
-use Rattle.job.specs.Mode.{isMode, isFound}
+use Rattle.numbers.specs.Mode.{isFound}
+use Rattle.job.specs.Mode.{isMode}
 use Rattle.job.specs.Rules.{rowAnswer}
 use Rattle.job.specs.Job.{modeIn}
 use Rattle.job.proofs.Read.{reads-no, reads-yes}
 use Rattle.ladder.proofs.Ladder.{broken}
-use Rattle.job.proofs.rules.read_row.Proof.Passed.{t, none, by-words, one, two, three, four, five, six, seven, w1, w2, w3, w6, c2, mode-is, max-is}
+use Rattle.job.proofs.rules.read_row.Proof.Passed.{t, none, by-words, one, two, three, four, five, six, seven, w1, w3, w6, mode-is, max-is}
 use Rattle.job.proofs.rules.read_row.Statement.{statement}
 use Rattle.job.proofs.rules.read_row.Tie as tie
 mod Passed

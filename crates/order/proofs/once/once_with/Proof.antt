@@ -5,9 +5,10 @@ use native.Mathlib.Omega.{arith}
 use borrow.Author.Needs.{needs}
 use lib.ListN.{length, length-set, length-replicate}
 use mathlib.Core.Bool.{false}
-use Rattle.reorder.specs.Test.{fails}
-use Rattle.reorder.specs.Once.{FreshTo, fresh-none, fresh-more, once-of-passed, not-once-high, not-once-twice}
-use Rattle.reorder.specs.Check.{once-decides}
+use Rattle.reorder.specs.Once.{FreshTo}
+use Rattle.reorder.proofs.Test.{fails}
+use Rattle.reorder.proofs.Once.{fresh-none, fresh-more, once-of-passed, not-once-high, not-once-twice}
+use Rattle.reorder.proofs.Check.{once-decides}
 use Rattle.order.proofs.Seen.{Seen, seen-none, seen-not, seen-more}
 use Rattle.order.proofs.once.once_with.Statement.{statement}
 use Rattle.order.proofs.once.once_with.Tie as tie

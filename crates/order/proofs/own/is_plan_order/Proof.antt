@@ -5,7 +5,7 @@ use native.Mathlib.Omega.{arith}
 use borrow.Author.Needs.{needs}
 use borrow.Author.Count.{below-more}
 use lib.ListN.{length, getD}
-use Rattle.reorder.specs.Test.{fails}
+use Rattle.reorder.proofs.Test.{fails}
 use Rattle.order.proofs.InPlace.{own-decides}
 use Rattle.order.proofs.own.is_plan_order.Statement.{statement}
 use Rattle.order.proofs.own.is_plan_order.Tie as tie

@@ -1,5 +1,5 @@
 -- `meet` meets its contract: the columns are tried, then the rows. Assumes nothing.
-use Rattle.reorder.specs.Rect.{meet-then, meet-else}
+use Rattle.reorder.proofs.Rect.{meet-then, meet-else}
 use borrow.Author.Needs.{needs}
 use Rattle.order.proofs.rect.meet.Statement.{statement}
 use Rattle.order.proofs.rect.meet.Tie as tie

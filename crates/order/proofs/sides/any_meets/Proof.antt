@@ -1,22 +1,24 @@
--- `any_meets` meets its contract: if there was no hit, none of the rows from `from` up to j overlaps. Assumes nothing.
+-- `any_meets` meets its contract: the hit is that of the rows from `from` up to j. Assumes nothing.
 use native.Mathlib.Omega.{arith}
-use native.Mathlib.Decide.{ℕ-discrete}
-use mathlib.Core.Path.{sym, _∙_, _≡_}
-use Rattle.order.proofs.Lists.{neither}
-use Prim.Native.Nat.{ℕ, _≤_, _<_, _-_}
-use mathlib.Core.Bool.{false}
-use Rattle.order.specs.Sides.{met}
+use mathlib.Core.Path.{_≡_, sym, _∙_, ap}
+use mathlib.Core.Bool.{_||_}
+use Prim.Native.Nat.{suc, _+_, _-_, _≤_, max}
+use Rattle.order.specs.Sides.{met, anyMet}
 use Rattle.order.proofs.sides.any_meets.Statement.{statement}
 use Rattle.order.proofs.sides.any_meets.Tie as tie
 
 abbrev Inv-loop : tie.InvT-loop
-Inv-loop lists from to s hit₀ j₀ hit j = (from ≤ j) × (hit ≡ false → (k : ℕ) → from ≤ k → k < j → met lists k s ≡ false)
+Inv-loop lists from to s hit₀ j₀ hit j = (from ≤ j) × (j ≤ max from to) × (hit ≡ anyMet lists s from (j - from))
 
 abbrev μ-loop : tie.MeasureT-loop
 μ-loop lists from to s hit₀ j₀ hit j = to - j
 
 loop-holds : tie.Need-loop-holds Inv-loop μ-loop
-loop-holds c = (omega arith, λ e k l m. absurd (omega arith))
+unfolding anyMet
+loop-holds c =
+    let t = c in
+    let none : t .before .args .from - t .before .args .from ≡ 0 = omega arith in
+    (omega arith, omega arith, sym (ap (anyMet (t .before .args .lists .now) (t .before .args .s) (t .before .args .from)) none))
 
 meets-at-requires : tie.Need-meets-at-requires Inv-loop μ-loop
 meets-at-requires c κs = (c .before .before .pre .0, omega arith)
@@ -28,17 +30,23 @@ loop-less : tie.Need-loop-less Inv-loop μ-loop
 loop-less c = omega arith
 
 loop-again : tie.Need-loop-again Inv-loop μ-loop
+unfolding anyMet
 loop-again c =
-    let k = c .before .before .loop in (
+    let k = c .before .before .loop in
+    let t = c .before .before .before in
+    let from = t .args .from in
+    let one : suc (k .j - from) ≡ k .j + 1 - from = omega arith in
+    let here : k .j ≡ from + (k .j - from) = omega arith in (
       omega arith,
-      λ e i l m. let t = neither (k .hit) (c .meets-at .result) e in elim (ℕ-discrete i (k .j)) [
-        | yes q ↦ rw q (sym (c .meets-at .ensures) ∙ t .1)
-        | no nq ↦ k .inv .1 (t .0) i l (omega arith)
-      ],
+      omega arith,
+      (λ i. k .inv .2 i || (c .meets-at .ensures ∙ ap (λ m. met (t .args .lists .now) m (t .args .s)) here) i) ∙ ap (anyMet (t .args .lists .now) (t .args .s) from) one,
     )
 
 returns : tie.Need-returns Inv-loop μ-loop
-returns c = λ e i l m. c .before .loop .inv .1 e i l (omega arith)
+returns c =
+    let t = c .before .before in
+    let end : c .before .loop .j - t .args .from ≡ t .args .to - t .args .from = omega arith in
+    c .before .loop .inv .2 ∙ ap (anyMet (t .args .lists .now) (t .args .s) (t .args .from)) end
 
 pub any-meets-spec : {M : Type 1} → statement M
 any-meets-spec =

@@ -3,7 +3,7 @@ use native.Mathlib.Omega.{arith}
 use mathlib.Core.Path.{sym, _∙_}
 use mathlib.Core.Logic.{⊎-elim}
 use mathlib.Core.Bool.{true≢false, false≢true}
-use Rattle.order.proofs.Lists.{neither}
+use Rattle.order.proofs.Lists.{neither, any-none}
 use borrow.Author.Needs.{needs}
 use Rattle.order.proofs.window.search.Statement.{statement}
 use Rattle.order.proofs.window.search.Tie as tie
@@ -30,7 +30,7 @@ returns-2 c =
     let off = neither (near .result) (far .result) (c .if1 .left) in
     record {
       found = λ e. absurd (false≢true e);
-      free = λ e j a b t. absurd (⊎-elim (λ q. true≢false (sym q ∙ near .ensures (off .0) j (omega arith) b)) (λ q. true≢false (sym q ∙ far .ensures (off .1) j (omega arith) b)) t);
+      free = λ e j a b t. absurd (⊎-elim (λ q. true≢false (sym q ∙ any-none _ _ _ _ (sym (near .ensures) ∙ off .0) j (omega arith) (omega arith))) (λ q. true≢false (sym q ∙ any-none _ _ _ _ (sym (far .ensures) ∙ off .1) j (omega arith) (omega arith))) t);
     }
 
 pub search-spec : {M : Type 1} → statement M

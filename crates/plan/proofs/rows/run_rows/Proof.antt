@@ -1,46 +1,18 @@
 -- `run_rows` meets its contract. The invariant: the first k entries of the order are done. Assumes nothing.
 use borrow.Author.Needs.{needs}
-use Prim.Native.Nat.{ℕ, _+_, _-_, _*_, _≤_, _<_}
+use Prim.Native.Nat.{_-_, _*_}
 use native.Mathlib.Omega.{arith}
-use mathlib.Core.Path.{_≡_, refl, sym, _∙_, ap}
-use lib.ListN.{length, getD, take, drop, length-set}
+use mathlib.Core.Path.{refl, sym, _∙_, ap}
+use lib.ListN.{length, length-set}
 use Rattle.lists.proofs.Block.{part-length}
 use Rattle.edges.specs.Rules.{isPlane}
-use Rattle.job.specs.Row.{rowAt}
 use Rattle.single.proofs.Laws.{keeps}
-use Rattle.plan.specs.Run.{memory, inOrder}
 use Rattle.numbers.proofs.Place.{answer-most}
 use Rattle.plan.proofs.Steps.{none-done, all-done, one-more}
+use Rattle.plan.proofs.rows.run_rows.Proof.Loop.{Inv-loop, μ-loop, t, entry, row-in, slot-in, low, row-is}
 use Rattle.plan.proofs.rows.run_rows.Statement.{statement}
 use Rattle.plan.proofs.rows.run_rows.Tie as tie
-
-abbrev Inv-loop : tie.InvT-loop
-Inv-loop plane₀ width height plan order differences answers₀ above₀ left₀ out₀ k₀ plane answers above left out k =
-    (k ≤ length order) × (length plane ≡ length plane₀) × (length answers ≡ length answers₀)
-    × (memory width height differences plane answers ≡ inOrder width height differences plan (take k order) (memory width height differences plane₀ answers₀))
-    × (length above ≡ 128) × (length left ≡ 128) × (length out ≡ 4096)
-
-abbrev μ-loop : tie.MeasureT-loop
-μ-loop plane₀ width height plan order differences answers₀ above₀ left₀ out₀ k₀ plane answers above left out k = length order - k
-
-module _ (i : tie.In-loop Inv-loop μ-loop) where
-  abbrev t : tie.Start Inv-loop μ-loop
-  t = i .before .before .before .before .before .before .before
-
-  abbrev entry : ℕ
-  entry = getD (t .args .order .now) (i .before .loop .k) 0
-
-  row-in : 16 * entry + 16 ≤ length (t .args .plan .now)
-  row-in = t .pre .0 .below (i .before .loop .k) (i .loop-test .taken) .0
-
-  slot-in : entry < length (t .args .answers .now)
-  slot-in = t .pre .0 .below (i .before .loop .k) (i .loop-test .taken) .1
-
-  low : entry < 1024
-  low = omega (arith, slot-in, t .pre .0 .few)
-
-  row-is : take (16 * entry + 16 - 16 * entry) (drop (16 * entry) (t .args .plan .now)) ≡ rowAt (t .args .plan .now) entry
-  row-is = let e : 16 * entry + 16 - 16 * entry ≡ 16 = omega arith in ap (λ n. take n (drop (16 * entry) (t .args .plan .now))) e
+mod Loop
 
 loop-holds : tie.Need-loop-holds Inv-loop μ-loop
 loop-holds c =

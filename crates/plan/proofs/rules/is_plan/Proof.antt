@@ -1,7 +1,5 @@
 -- `is_plan` meets its contract: the tests are the definition's. Assumes nothing.
-use borrow.Author.Needs.{needs}
 use borrow.Author.Tests.{eq-eqb, ne-eqb, le-leb, lt-leb}
-use mathlib.Core.Path.{refl}
 use Rattle.plan.specs.Rules.{isPlan}
 use Rattle.plan.proofs.rules.is_plan.Statement.{statement}
 use Rattle.plan.proofs.rules.is_plan.Tie as tie

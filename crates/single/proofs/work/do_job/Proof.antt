@@ -2,7 +2,7 @@
 use borrow.Author.Needs.{needs}
 use native.Mathlib.Nat.{mul-le-mul}
 use native.Mathlib.Omega.{arith}
-use mathlib.Core.Path.{_≡_, sym, _∙_}
+use mathlib.Core.Path.{sym, _∙_}
 use Rattle.single.proofs.Granted.{side}
 use Rattle.single.proofs.Tested.{tested, not-read, read-on}
 use Rattle.single.proofs.work.do_job.Statement.{statement}

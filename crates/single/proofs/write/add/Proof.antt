@@ -1,6 +1,6 @@
 -- `add` meets its contract: the prediction is a whole number, so the cast keeps it, nothing wraps, and the last cast is exact. Assumes nothing.
 use native.Mathlib.Omega.{arith}
-use mathlib.Core.Path.{_≡_, refl, _∙_, ap}
+use mathlib.Core.Path.{_≡_, _∙_, ap}
 use Prim.Native.Nat.{_+_, _≤_}
 use lib.IntN.{ℤ, pos, negsuc, natAbs, _+ℤ_}
 use lib.Ieee.{toSigned}

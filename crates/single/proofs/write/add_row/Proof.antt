@@ -1,10 +1,10 @@
 -- `add_row` meets its contract. The invariant: the first c samples are written. Assumes nothing.
 use borrow.Author.Needs.{sfits-of}
-use Prim.Native.Nat.{ℕ, _≤_, _-_}
+use Prim.Native.Nat.{_≤_, _-_}
 use native.Mathlib.Omega.{arith}
 use mathlib.Core.Path.{_≡_, refl, sym, _∙_, ap}
 use lib.ListN.{length, getD, length-set}
-use lib.IntN.{ℤ, pos}
+use lib.IntN.{pos}
 use lib.Ieee.{nan}
 use mir.Syntax.{w16, w32}
 use mir.Val.{SFits, toZ, ofZ}

@@ -5,9 +5,9 @@ use mathlib.Core.Bool.{true}
 use lib.IntN.{pos}
 use mir.Syntax.{w32}
 use Rattle.zint.proofs.Bound.{back-abs}
-use Rattle.numbers.specs.Depth.{isDepth, most}
+use Rattle.numbers.specs.Depth.{isDepth}
 use Rattle.zint.specs.Range.{inside}
-use Rattle.samples.specs.Sample.{isSample, reading, Readable}
+use Rattle.samples.specs.Sample.{reading, Readable}
 use Rattle.samples.proofs.Reading.{reading-small}
 use borrow.Author.Needs.{needs}
 use Rattle.still.proofs.nearest.whole.Statement.{statement}

@@ -2,7 +2,7 @@
 use borrow.Author.Needs.{sfits-of}
 use borrow.Author.Tests.{not-false}
 use mathlib.Core.Path.{_≡_, refl, sym, _∙_, ap}
-use mathlib.Core.Bool.{Bool, true, false, cond}
+use mathlib.Core.Bool.{Bool, true}
 use mathlib.Core.List.{List}
 use Prim.Native.Nat.{ℕ}
 use lib.IntN.{pos}
@@ -11,7 +11,6 @@ use mir.Syntax.{w32}
 use mir.Val.{toZ, ofZ}
 use Rattle.numbers.specs.Size.{isSize}
 use Rattle.numbers.specs.Depth.{isDepth, most}
-use Rattle.numbers.specs.declared.answer.Answer.{Answer}
 use Rattle.numbers.proofs.Agree.{size-yes, depth-yes, depth-back}
 use Rattle.zint.proofs.Bound.{back}
 use Rattle.ladder.specs.Ladder.{Rule, ladder}
@@ -19,9 +18,10 @@ use Rattle.ladder.proofs.Ladder.{kept}
 use Rattle.edges.specs.Rules.{isInside, hasNeighbours, isBase}
 use Rattle.edges.specs.declared.spec.IntraRefSpec.{IntraRefSpec}
 use Rattle.job.specs.Row.{specOf}
-use Rattle.job.specs.Mode.{isMode, isFound, modeOf}
-use Rattle.job.specs.Rules.{rowRules, hasDifferences}
-use Rattle.job.specs.declared.mode.FoundMode.the-variants.{Is}
+use Rattle.numbers.specs.Mode.{isFound}
+use Rattle.job.specs.Mode.{isMode, rowMode}
+use Rattle.job.specs.Rules.{rowRules}
+use Rattle.numbers.specs.declared.mode.FoundMode.the-variants.{Is}
 use Rattle.job.proofs.rules.read_row.Tie as tie
 
 module _ (w : tie.After-spec-of) where
@@ -66,7 +66,7 @@ module _ (c : tie.After-known-told2) where
   abbrev pub w3 : tie.After-spec-of
   w3 = w2 c2
 
-  pub mode-is : modeOf (t w3 .args .row .now) ≡ Is (c .before .mode .given .0 .0)
+  pub mode-is : rowMode (t w3 .args .row .now) ≡ Is (c .before .mode .given .0 .0)
   mode-is = sym (c .before .before .before .mode-of .ensures) ∙ c .before .mode .given .1
 
   pub three : After w3 3

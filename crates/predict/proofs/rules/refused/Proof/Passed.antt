@@ -2,7 +2,7 @@
 use borrow.Author.Needs.{sfits-of}
 use borrow.Author.Tests.{not-false, le-leb}
 use mathlib.Core.Path.{_≡_, refl, sym, _∙_, ap}
-use mathlib.Core.Bool.{Bool, true, false, cond}
+use mathlib.Core.Bool.{true}
 use mathlib.Core.List.{List}
 use Prim.Native.Nat.{ℕ}
 use lib.IntN.{pos}
@@ -10,7 +10,6 @@ use lib.ListN.{length, drop}
 use mir.Syntax.{w32}
 use mir.Val.{toZ, ofZ}
 use Rattle.numbers.specs.Depth.{isDepth, most}
-use Rattle.numbers.specs.declared.answer.Answer.{Answer}
 use Rattle.numbers.proofs.Agree.{depth-yes, depth-back}
 use Rattle.zint.proofs.Bound.{back}
 use Rattle.ladder.specs.Ladder.{Rule, ladder}

@@ -1,18 +1,18 @@
--- `directed` meets its contract: the direction is looked up, and then the delta. Assumes nothing.
+-- `Mode::directed` meets its contract: the direction is looked up, and then the delta. Assumes nothing.
 use borrow.Author.Needs.{needs, sfits-of}
 use borrow.Author.Tests.{not-true, not-false}
 use mathlib.Core.Path.{_≡_, sym, _∙_, ap}
 use mathlib.Core.Bool.{Bool, true, cond}
 use mir.Syntax.{w32}
 use Rattle.numbers.specs.Dir.{dirOf, isDelta, deltaOf}
 use Rattle.numbers.specs.declared.dir.Dir.{Dir}
 use Rattle.numbers.specs.declared.dir.FoundDir.the-variants as found-dir
 use Rattle.numbers.specs.declared.mode.Mode.the-variants.{Directional}
 use Rattle.zint.proofs.Bound.{back}
-use Rattle.job.specs.Mode.{directedMode}
-use Rattle.job.specs.declared.mode.FoundMode.the-variants.{Is, NoMode}
-use Rattle.job.proofs.mode.directed.Statement.{statement}
-use Rattle.job.proofs.mode.directed.Tie as tie
+use Rattle.numbers.specs.Mode.{directedMode}
+use Rattle.numbers.specs.declared.mode.FoundMode.the-variants.{Is, NoMode}
+use Rattle.numbers.proofs.mode.Mode.directed.Statement.{statement}
+use Rattle.numbers.proofs.mode.Mode.directed.Tie as tie
 
 -- where the direction is found
 module _ (d : tie.After-dir) where

@@ -1,10 +1,10 @@
--- `named` meets its contract: each arm is the mode of its number. Assumes nothing.
+-- `Mode::of` meets its contract: each arm is the mode of its number. Assumes nothing.
 use borrow.Author.Needs.{needs}
 use borrow.Author.Tests.{ne-eqb}
 use mathlib.Core.Path.{_∙_}
-use Rattle.job.specs.Mode.{namedMode}
-use Rattle.job.proofs.mode.named.Statement.{statement}
-use Rattle.job.proofs.mode.named.Tie as tie
+use Rattle.numbers.specs.Mode.{namedMode}
+use Rattle.numbers.proofs.mode.Mode.of.Statement.{statement}
+use Rattle.numbers.proofs.mode.Mode.of.Tie as tie
 
 directed-requires : tie.Need-directed-requires
 directed-requires c κs = search needs
@@ -41,7 +41,7 @@ returns-6 c =
       ne-eqb _ 4 (r .1),
     )
 
-pub named-spec : {M : Type 1} → statement M
-named-spec =
+pub of-spec : {M : Type 1} → statement M
+of-spec =
     tie.close
     (tie.spec directed-requires returns returns-2 returns-3 returns-4 returns-5 returns-6)
