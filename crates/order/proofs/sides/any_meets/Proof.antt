@@ -16,9 +16,8 @@ abbrev μ-loop : tie.MeasureT-loop
 loop-holds : tie.Need-loop-holds Inv-loop μ-loop
 unfolding anyMet
 loop-holds c =
-    let t = c in
-    let none : t .before .args .from - t .before .args .from ≡ 0 = omega arith in
-    (omega arith, omega arith, sym (ap (anyMet (t .before .args .lists .now) (t .before .args .s) (t .before .args .from)) none))
+    let none : c .args .from - c .args .from ≡ 0 = omega arith in
+    (omega arith, omega arith, sym (ap (anyMet (c .args .lists .now) (c .args .s) (c .args .from)) none))
 
 meets-at-requires : tie.Need-meets-at-requires Inv-loop μ-loop
 meets-at-requires c κs = (c .before .before .pre .0, omega arith)
