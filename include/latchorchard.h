@@ -287,7 +287,7 @@ uint32_t latch_run_job(float *plane, size_t plane_len, size_t width, size_t heig
  * The plan is its jobs' rows, one after the other, at most 1024; order holds each row's index once and says which job is done
  * first, second and so on. Jobs of different D may stand in one plan. Two jobs clash if one writes a sample that the other
  * reads or writes. A job that would be refused by 1 to 7 clashes with none; one that 8 would refuse clashes as if it were
- * done, so that clashes hang on rows and sizes alone. An order that leaves every clashing pair as the plan has it is taken, and
+ * done, so that clashes depend on rows and sizes alone. An order that leaves every clashing pair as the plan has it is taken, and
  * the plane and the answers are then those of the plan's own order.
  *
  * Writes answers[i] for every row i of the plan: 0 where the job is done, or its refusal, 1 to 8, as latch_run_job has it, with
