@@ -13,7 +13,8 @@ use Rattle.job.specs.Rules.{stands}
 use Rattle.job.specs.Touches.{Reads, Writes}
 use Rattle.job.specs.Rects.{runsOf, readsOf, writesOf}
 use Rattle.job.proofs.Stands.{Standing, standing}
-use Rattle.job.proofs.Runs.{rect-if, wide-if, run-of-read, read-of-run}
+use Rattle.job.proofs.Places.{rect-if, wide-if}
+use Rattle.job.proofs.Runs.{run-of-read, read-of-run}
 
 -- a job that does not stand has no runs
 no-runs : (W : ℕ) (s : IntraRefSpec) (p : ℕ) → ¬ (InAny W (runsOf false s) p)

@@ -1,55 +1,22 @@
 -- The runs of a job that stands: a sample is in one of them exactly when it stands behind an entry of an edge or behind the corner. Assumes nothing.
-use mathlib.Core.Path.{_≡_, refl, _∙_}
-use mathlib.Core.Logic.{_↔_, _⊎_, inl, inr}
-use mathlib.Core.Bool.{Bool, true, false, _&&_, false≢true}
+use mathlib.Core.Path.{_≡_, _∙_}
+use mathlib.Core.Logic.{_⊎_, inl, inr}
+use mathlib.Core.Bool.{true, _&&_}
 use Prim.Native.Nat.{ℕ, _+_, _-_, _*_, _≤_, _<_, min}
 use native.Mathlib.Omega.{arith}
-use lib.IntN.{ℤ}
 use Rattle.zint.proofs.Range.{and-both}
 use Rattle.line.specs.Along.{along}
 use Rattle.line.proofs.Along.{along-here, along-far, along-in}
 use Rattle.line.proofs.Every.{and-of}
-use Rattle.edges.specs.Behind.{Behind, place, number}
+use Rattle.edges.specs.Behind.{place}
 use Rattle.edges.specs.declared.spec.IntraRefSpec.{IntraRefSpec}
 use Rattle.edges.proofs.Behind.{above-there, above-by-left, above-by-base, left-there, left-by-above, left-by-base}
 use Rattle.edges.proofs.Behind.{corner-by-both, corner-by-above, corner-by-left, corner-by-base}
-use Rattle.reorder.specs.Rect.{Wide, In, InAny}
-use Rattle.job.specs.Touches.{IsAt, Read, by-above, by-left, by-corner}
-use Rattle.job.specs.Rects.{rectIf, runsOf}
+use Rattle.reorder.specs.Rect.{InAny}
+use Rattle.job.specs.Touches.{Read, by-above, by-left, by-corner}
+use Rattle.job.specs.Rects.{runsOf}
 use Rattle.job.proofs.Stands.{Standing}
-
--- ---- a rectangle that may be empty
-
-module _ (W x y w h : ℕ) where
-  pub rect-if : (b : Bool) (p : ℕ) → In W (rectIf b x y w h) p ↔ ((b ≡ true) × In W (record { x = x; y = y; w = w; h = h }) p)
-  rect-if true p = (λ i. (refl, i), λ i. i .1)
-  rect-if false p = (λ i. absurd (omega arith), λ i. absurd (false≢true (i .0)))
-
-  pub wide-if : (b : Bool) → (b ≡ true → x + w ≤ W) → Wide W (rectIf b x y w h)
-  wide-if true f = f refl
-  wide-if false f = omega arith
-
--- ---- a sample behind an entry
-
-module _ (W p : ℕ) (b : Behind) where
-  is-at : (r c : ℕ) → b ≡ place r c → p ≡ r * W + c → IsAt W p b
-  is-at r c e q = rw e q
-
-  at-is : (r c : ℕ) → b ≡ place r c → IsAt W p b → p ≡ r * W + c
-  at-is r c e q = rw e at q
-
-  at-none : (z : ℤ) → b ≡ number z → ¬ (IsAt W p b)
-  at-none z e q = rw e at q
-
--- by which neighbours are there
-neighbours : {P : Type 0} (above left : Bool) → (above ≡ true → left ≡ true → P) → (above ≡ true → left ≡ false → P)
-    → (above ≡ false → left ≡ true → P) → (above ≡ false → left ≡ false → P) → P
-neighbours true true f g h k = f refl refl
-neighbours true false f g h k = g refl refl
-neighbours false true f g h k = h refl refl
-neighbours false false f g h k = k refl refl
-
--- ---- the runs of a job that stands
+use Rattle.job.proofs.Places.{rect-if, is-at, at-is, at-none, neighbours}
 
 module _ (W H : ℕ) (s : IntraRefSpec) (g : Standing W H s) (p : ℕ) where
   -- ways into the five runs

@@ -7,5 +7,6 @@ pub mod Laws
 pub mod Local
 pub mod Modes
 pub mod Painted
+pub mod RowByRow
 pub mod Singles
 pub mod Tested

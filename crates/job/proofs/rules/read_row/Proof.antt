@@ -1,24 +1,16 @@
 -- `read_row` meets its contract: each test is the ladder's, in its order, and what is read is the row's job. Assumes nothing.
 use borrow.Author.Needs.{needs}
-use borrow.Author.Tests.{not-true}
-use mathlib.Core.Path.{refl, sym, _∙_, ap}
-use mathlib.Core.Bool.{false}
-use Rattle.numbers.specs.Size.{isSize}
-use Rattle.numbers.specs.Depth.{isDepth}
-use Rattle.numbers.specs.Answer.{isDone}
+use mathlib.Core.Path.{sym, _∙_, ap}
 use Rattle.numbers.specs.Flag.{flagsOf}
-use Rattle.numbers.proofs.Agree.{size-no, depth-no}
-use Rattle.edges.specs.Rules.{isInside, hasNeighbours, isBase}
-use Rattle.numbers.specs.Mode.{isFound}
-use Rattle.job.specs.Mode.{isMode}
 use Rattle.job.specs.Rules.{rowAnswer}
 use Rattle.job.specs.Job.{modeIn}
-use Rattle.job.proofs.Read.{reads-no, reads-yes}
-use Rattle.ladder.proofs.Ladder.{broken}
-use Rattle.job.proofs.rules.read_row.Proof.Passed.{t, none, by-words, one, two, three, four, five, six, seven, w1, w3, w6, mode-is, max-is}
+use Rattle.job.proofs.Read.{reads-yes}
+use Rattle.job.proofs.rules.read_row.Proof.Passed.{t, seven, w3, w6, mode-is, max-is}
+use Rattle.job.proofs.rules.read_row.Proof.Refusals.{returns, returns-2, returns-3, returns-4, returns-5, returns-6, returns-7}
 use Rattle.job.proofs.rules.read_row.Statement.{statement}
 use Rattle.job.proofs.rules.read_row.Tie as tie
 mod Passed
+mod Refusals
 
 spec-of-requires : tie.Need-spec-of-requires
 spec-of-requires c κs = search needs
@@ -32,12 +24,6 @@ enum-told c = search needs
 enum-told-2 : tie.Need-enum-told-2
 enum-told-2 c = search needs
 
-returns : tie.Need-returns
-unfolding rowAnswer isDone
-returns c =
-    let w = c .before .before .before in
-    reads-no _ _ _ _ _ (broken _ _ _ _ (by-words w (λ s. isSize (s .b)) false (size-no _ (sym (c .before .before .of .ensures) ∙ c .enum-told2 .given .1))) (none w)) refl
-
 of-requires-2 : tie.Need-of-requires-2
 of-requires-2 c κs = search needs
 
@@ -46,12 +32,6 @@ enum-known-depth c = search needs
 
 enum-told-3 : tie.Need-enum-told-3
 enum-told-3 c = search needs
-
-returns-2 : tie.Need-returns-2
-unfolding rowAnswer isDone
-returns-2 c =
-    let k = c .before .before .before in
-    reads-no _ _ _ _ _ (broken _ _ _ _ (by-words (w1 k) (λ s. isDepth (s .d)) false (depth-no _ (sym (c .before .before .of2 .ensures) ∙ c .enum-told3 .given .1))) (one k)) refl
 
 mode-of-requires : tie.Need-mode-of-requires
 mode-of-requires c κs = search needs
@@ -62,29 +42,11 @@ enum-known-mode c = search needs
 enum-told-4 : tie.Need-enum-told-4
 enum-told-4 c = search needs
 
-returns-3 : tie.Need-returns-3
-unfolding rowAnswer isDone isMode
-returns-3 c =
-    let k = c .before .before .before in
-    reads-no _ _ _ _ _ (broken _ _ _ _ (ap isFound (sym (c .before .before .mode-of .ensures) ∙ c .enum-told4 .given .1)) (two k)) refl
-
 is-inside-requires : tie.Need-is-inside-requires
 is-inside-requires c κs = search needs
 
-returns-4 : tie.Need-returns-4
-unfolding rowAnswer isDone
-returns-4 c =
-    let i = c .before in
-    reads-no _ _ _ _ _ (broken _ _ _ _ (by-words (w3 (i .before)) (isInside _ _) false (sym (i .is-inside .ensures) ∙ not-true (i .is-inside .result) (c .if1 .taken))) (three (i .before))) refl
-
 has-neighbours-requires : tie.Need-has-neighbours-requires
 has-neighbours-requires c κs = search needs
-
-returns-5 : tie.Need-returns-5
-unfolding rowAnswer isDone
-returns-5 c =
-    let i = c .before in
-    reads-no _ _ _ _ _ (broken _ _ _ _ (by-words (w3 (i .before .before .before)) (hasNeighbours _ _) false (sym (i .has-neighbours .ensures) ∙ not-true (i .has-neighbours .result) (c .if2 .taken))) (four (i .before))) refl
 
 max-requires : tie.Need-max-requires
 max-requires c κs = search needs
@@ -92,20 +54,8 @@ max-requires c κs = search needs
 is-base-requires : tie.Need-is-base-requires
 is-base-requires c κs = max-is c
 
-returns-6 : tie.Need-returns-6
-unfolding rowAnswer isDone
-returns-6 c =
-    let i = c .before in
-    reads-no _ _ _ _ _ (broken _ _ _ _ (by-words (w6 (i .before)) isBase false (sym (i .is-base .ensures) ∙ not-true (i .is-base .result) (c .if3 .taken))) (five (i .before .before))) refl
-
 has-differences-requires : tie.Need-has-differences-requires
 has-differences-requires c κs = search needs
-
-returns-7 : tie.Need-returns-7
-unfolding rowAnswer isDone
-returns-7 c =
-    let i = c .before in
-    reads-no _ _ _ _ _ (broken _ _ _ _ (sym (i .has-differences .ensures) ∙ not-true (i .has-differences .result) (c .if4 .taken)) (six (i .before))) refl
 
 word-requires : tie.Need-word-requires
 word-requires c κs = search needs

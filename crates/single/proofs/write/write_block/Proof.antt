@@ -9,7 +9,7 @@ use mir.Val.{toZ, ofZ}
 use mir.Facts.{toZ-ofZ}
 use Rattle.lists.proofs.Block.{part-length}
 use Rattle.single.specs.Done.{painted}
-use Rattle.single.proofs.Painted.{rowsOf, painted-none}
+use Rattle.single.proofs.RowByRow.{rowsOf, painted-none}
 use Rattle.single.proofs.write.write_block.Proof.Loop.{at, Inv-loop, μ-loop, part-at, again, first, start, room, near, lent, few}
 use Rattle.single.proofs.write.write_block.Statement.{statement}
 use Rattle.single.proofs.write.write_block.Tie as tie

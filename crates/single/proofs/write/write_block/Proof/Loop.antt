@@ -16,7 +16,7 @@ use Rattle.lists.proofs.Fill.{length-tab, tab-at}
 use Rattle.lists.proofs.Block.{part-length}
 use Rattle.single.specs.Block.{added, addedAt}
 use Rattle.single.specs.Done.{painted}
-use Rattle.single.proofs.Painted.{rowsOf, painted-row}
+use Rattle.single.proofs.RowByRow.{rowsOf, painted-row}
 use Rattle.single.proofs.write.write_block.Tie as tie
 
 -- the sample at row r and column c of the block
