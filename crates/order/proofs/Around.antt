@@ -11,7 +11,7 @@ use Rattle.job.specs.Row.{Row, specOf}
 use Rattle.job.specs.Rules.{stands}
 use Rattle.job.specs.Rects.{runsOf, readsOf, writesOf}
 use Rattle.job.proofs.Stands.{Standing, standing}
-use Rattle.job.proofs.Runs.{rect-if}
+use Rattle.job.proofs.Places.{rect-if}
 use Rattle.job.proofs.Exact.{writes-wide, reads-exact}
 use Rattle.job.specs.Touches.{blockAt}
 use Rattle.order.specs.Hull.{one, past, hullOf, onlyIf, blockFor, hullFor}

@@ -26,8 +26,7 @@ use Rattle.smooth.proofs.Laws.{smoothV-inside, smoothH-inside, smooth-inside}
 use Rattle.job.specs.declared.job.Job.{Job}
 use Rattle.single.specs.Written.{predictorBy, predictorOf}
 
--- what holds of both holds of the one that is chosen
-pub either : {A : Type 0} (P : A → Type 0) (t : Bool) (a b : A) → P a → P b → P (cond t a b)
+either : (P : ℤ → Type 0) (t : Bool) (a b : ℤ) → P a → P b → P (cond t a b)
 either P true a b p q = p
 either P false a b p q = q
 

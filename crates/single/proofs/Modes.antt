@@ -4,18 +4,20 @@ use mathlib.Core.Bool.{Bool, true, false, cond}
 use mathlib.Core.List.{List}
 use Prim.Native.Nat.{ℕ, _*_, _≤_}
 use native.Mathlib.Omega.{arith}
+use lib.Dec.{eqb}
 use lib.IntN.{ℤ, pos, natAbs}
 use lib.Ieee.{Float}
 use lib.ListN.{length}
 use Rattle.numbers.specs.Size.{isSize}
 use Rattle.numbers.specs.Depth.{isDepth, most}
 use Rattle.numbers.specs.Dir.{dirOf, isDelta, deltaOf}
+use Rattle.numbers.specs.Flag.{noStray}
 use Rattle.numbers.specs.declared.dir.Dir.{Dir}
 use Rattle.numbers.specs.declared.dir.FoundDir.{FoundDir}
 use Rattle.numbers.specs.declared.dir.FoundDir.the-variants as found-dir
 use Rattle.numbers.specs.declared.mode.Mode.{Mode}
 use Rattle.numbers.specs.declared.mode.Mode.the-variants.{Directional}
-use Rattle.numbers.specs.declared.word.Word.the-variants.{DirectionWord, DeltaWord}
+use Rattle.numbers.specs.declared.word.Word.the-variants.{ModeWord, DirectionWord, DeltaWord, FlagWord}
 use Rattle.numbers.proofs.Angle.{delta-small}
 use Rattle.zint.specs.Range.{inside, Edge}
 use Rattle.zint.proofs.Range.{inside-abs, inside-more}
@@ -30,12 +32,15 @@ use Rattle.job.specs.declared.job.Job.{Job}
 use Rattle.numbers.specs.declared.mode.FoundMode.{FoundMode}
 use Rattle.numbers.specs.declared.mode.FoundMode.the-variants.{Is, NoMode}
 use Rattle.single.specs.Written.{predictorBy, predictorOf}
-use Rattle.single.proofs.Inside.{either}
 use Rattle.single.specs.Ready.{Turns, Ready, predictedBlock}
 
 -- ---- the mode of a row
 abbrev InTurn : FoundMode → Type 0
 InTurn f = Turns (modeIn f)
+
+either : (t : Bool) (f g : FoundMode) → InTurn f → InTurn g → InTurn (cond t f g)
+either true f g p q = p
+either false f g p q = q
 
 directed-turns : (f : FoundDir) (delta : ℕ) → InTurn (directedMode f delta)
 directed-turns (found-dir.Is dir) delta = go (isDelta delta) refl
@@ -49,9 +54,12 @@ directed-turns found-dir.NoDir delta = tt
 pub mode-turns : (row : Row) → Turns (modeIn (rowMode row))
 unfolding rowMode namedMode
 mode-turns row =
-    either InTurn _ _ _
-    (either InTurn _ _ _ tt (either InTurn _ _ _ tt (either InTurn _ _ _ tt (either InTurn _ _ _ tt (either InTurn _ _ _ (directed-turns (dirOf (word row DirectionWord)) (word row DeltaWord)) tt)))))
+    either (noStray (word row FlagWord)) _ _
+    (either (eqb m 0) _ _ tt (either (eqb m 1) _ _ tt (either (eqb m 2) _ _ tt (either (eqb m 3) _ _ tt (either (eqb m 4) _ _ (directed-turns (dirOf (word row DirectionWord)) (word row DeltaWord)) tt)))))
     tt
+  where
+    m : ℕ
+    m = word row ModeWord
 
 -- ---- what the predictors ask
 module _ {job : Job} {above left : List ℤ} {k : ℤ} {n : ℕ} (g : Ready job above left k n) where
