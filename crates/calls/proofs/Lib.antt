@@ -1,2 +1,3 @@
 -- Laws of the tests of a direct call.
 pub mod Accepted
+pub mod Given
