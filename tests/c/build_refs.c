@@ -6,11 +6,13 @@
 
 enum { CORNER_LEN = BLOCK_FIELDS };
 
-static const uint32_t order[] = {20, 1, 2, 4, 5, 6, 9, 8, 0};
+static const uint32_t order[] = {
+    LATCH_BAD_PLANE, LATCH_BAD_SIZE, LATCH_BAD_DEPTH, LATCH_OUTSIDE_PLANE, LATCH_NO_NEIGHBOUR, LATCH_BAD_BASE,
+    LATCH_SHORT_LIST, LATCH_BAD_SAMPLE, LATCH_DONE};
 
 static const struct fault faults[] = {
-    {"corner empty", 9, {{CORNER_LEN, 0}}, 0},
-    {"corner longer", 0, {{CORNER_LEN, 4}}, 0},
+    {"corner empty", LATCH_SHORT_LIST, {{CORNER_LEN, 0}}, 0},
+    {"corner longer", LATCH_DONE, {{CORNER_LEN, 4}}, 0},
 };
 
 static struct zone plane_zone, above_zone, left_zone, corner_zone;

@@ -77,9 +77,9 @@ static void apply(const struct fault *fault, int64_t *fields) {
         if (fault->sets[i].field != 0) fields[fault->sets[i].field] = fault->sets[i].value;
 }
 
-/* The earlier of two numbers in an order that ends with 0. */
+/* The earlier of two numbers in an order that ends with LATCH_DONE. */
 static uint32_t earlier(const uint32_t *order, uint32_t a, uint32_t b) {
-    while (*order != 0 && *order != a && *order != b) order++;
+    while (*order != LATCH_DONE && *order != a && *order != b) order++;
     return *order;
 }
 

@@ -6,6 +6,8 @@
 #include <stddef.h>
 #include <stdint.h>
 
+#include "latchorchard.h"
+
 /* Counts one check; a failed one is printed. */
 void check(bool holds, const char *format, ...) __attribute__((format(printf, 2, 3)));
 /* Prints the count and says how the program ends. */
@@ -33,12 +35,14 @@ enum { FIELDS_MOST = 32, SETS_MOST = 4, TABLES_MOST = 5 };
 /* Lengths are told as entries more than needed; NONE is an empty slice. */
 #define NONE INT64_MIN
 size_t length(int64_t needed, int64_t more);
+/* Every flag: one more is a stray bit. */
+enum { ALL_FLAGS = LATCH_HAVE_ABOVE + LATCH_HAVE_LEFT + LATCH_LUMA + LATCH_EDGE_FILTER + LATCH_SMOOTH_NEIGHBOUR };
 /* Encodes M + k, for the M of the depth in use. */
 #define M_PLUS(k) ((INT64_C(1) << 40) + (k))
 /* M + k where M_PLUS(k) stands, else the value. */
 int64_t with_max(int64_t value, int64_t most);
 
-/* A fault sets fields of an accepted call; alone it gets `number` (0: it is no fault, the call stays accepted).
+/* A fault sets fields of an accepted call; alone it gets `number` (LATCH_DONE: it is no fault, the call stays accepted).
  * `uses` has a bit for each field that it leans on without setting it. */
 struct fault {
     const char *name;
@@ -57,7 +61,7 @@ extern const struct faults size_faults, edge_faults;
 
 struct call {
     char name[64];
-    const uint32_t *order;       /* its refusals in the order of checking, then 0 */
+    const uint32_t *order;       /* its refusals in the order of checking, then LATCH_DONE */
     struct faults tables[TABLES_MOST];
     int64_t plain[FIELDS_MOST];  /* the fields of an accepted call */
     /* Makes the call. `kept`: the guards, the inputs and the tails are untouched, and with a refusal all that was lent. */

@@ -3,7 +3,7 @@
 
 #include "plan.h"
 
-enum { SIDE = 20 };
+enum { SIDE = 20, ABOVE = LATCH_HAVE_ABOVE, LEFT = LATCH_HAVE_LEFT, BOTH = ABOVE + LEFT };
 static const uint16_t forwards[] = {0, 1}, backwards[] = {1, 0};
 
 static uint32_t run_two(const row_words *jobs, const uint16_t *order, bool *kept) {
@@ -50,8 +50,9 @@ static bool clash(const uint16_t *one, const uint16_t *two) {
 /* A block at every place round a reader in the middle, before it in the plan and after it; at odd places it reads too. */
 void test_clashes(void) {
     static const struct { uint16_t flags, top_right, bottom_left, available_above, available_left; } readers[] = {
-        {0, 4, 4, 4, 4}, {1, 0, 4, 4, 4}, {1, 3, 4, 2, 4}, {1, 0, 4, 1, 4}, {2, 4, 0, 4, 4}, {2, 4, 2, 4, 1}, {2, 4, 0, 4, 2},
-        {3, 0, 0, 4, 4}, {3, 0, 0, 3, 1}, {3, 4, 4, 4, 4}, {3, 1, 3, 65535, 3}, {3, 65535, 65535, 1, 1}, {3, 2, 65535, 3, 65535}};
+        {0, 4, 4, 4, 4}, {ABOVE, 0, 4, 4, 4}, {ABOVE, 3, 4, 2, 4}, {ABOVE, 0, 4, 1, 4}, {LEFT, 4, 0, 4, 4}, {LEFT, 4, 2, 4, 1},
+        {LEFT, 4, 0, 4, 2}, {BOTH, 0, 0, 4, 4}, {BOTH, 0, 0, 3, 1}, {BOTH, 4, 4, 4, 4}, {BOTH, 1, 3, 65535, 3},
+        {BOTH, 65535, 65535, 1, 1}, {BOTH, 2, 65535, 3, 65535}};
     for (int k = 0; k < (int)COUNT(readers) * 2 * (SIDE - 3) * (SIDE - 3); k++) {
         int first = k % 2, x = k / 2 % (SIDE - 3), y = k / 2 / (SIDE - 3) % (SIDE - 3), r = k / 2 / (SIDE - 3) / (SIDE - 3);
         row_words jobs[2];

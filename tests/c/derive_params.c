@@ -6,37 +6,39 @@
 
 enum { CHROMA_MORE = COLOUR_FIELDS, CHROMA_AT, CHROMA_IS, PARAMS_LEN, LUMA_ALL };
 
-static const uint32_t order[] = {2, 10, 11, 12, 9, 13, 14, 0};
+static const uint32_t order[] = {
+    LATCH_BAD_DEPTH, LATCH_BAD_COLOUR_DIRECTION, LATCH_BAD_REFERENCE, LATCH_BAD_LINES, LATCH_SHORT_LIST,
+    LATCH_BAD_COLOUR_SAMPLE, LATCH_SUM_TOO_LARGE, LATCH_DONE};
 
 /* Sizes and lines that change which samples count are not tried with values at a place. */
 #define COUNTS (BIT(LUMA_AT) | BIT(CHROMA_AT))
 
 static const struct fault faults[] = {
-    {"direction 0", 0, {{DIRECTION, 0}}, 0},
-    {"direction 1", 0, {{DIRECTION, 1}}, 0},
-    {"direction 2", 0, {{DIRECTION, 2}}, 0},
-    {"ref_width 0", 0, {{REF_WIDTH, 0}}, COUNTS},
-    {"ref_width 2", 0, {{REF_WIDTH, 2}}, COUNTS},
-    {"ref_width 3", 0, {{REF_WIDTH, 3}}, COUNTS},
-    {"ref_width 256", 0, {{REF_WIDTH, 256}, {ABOVE_LINES, 2}, {LEFT_LINES, 2}}, COUNTS},
-    {"ref_height 0", 0, {{REF_HEIGHT, 0}}, COUNTS | BIT(LUMA_MORE) | BIT(CHROMA_MORE)},
-    {"ref_height 1", 0, {{REF_HEIGHT, 1}}, COUNTS},
-    {"ref_height 3", 0, {{REF_HEIGHT, 3}}, COUNTS},
-    {"ref_height 256", 0, {{REF_HEIGHT, 256}, {ABOVE_LINES, 2}, {LEFT_LINES, 2}}, COUNTS},
-    {"chroma one short", 11, {{CHROMA_MORE, -1}}, 0},
-    {"chroma empty", 11, {{CHROMA_MORE, NONE}}, 0},
-    {"chroma longer", 0, {{CHROMA_MORE, 3}}, 0},
-    {"above_lines 0", 0, {{ABOVE_LINES, 0}}, COUNTS},
-    {"above_lines 256", 0, {{ABOVE_LINES, 256}}, 0},
-    {"left_lines 0", 0, {{LEFT_LINES, 0}}, COUNTS},
-    {"left_lines 256", 0, {{LEFT_LINES, 256}}, 0},
-    {"params empty", 9, {{PARAMS_LEN, 0}}, 0},
-    {"params one short", 9, {{PARAMS_LEN, 2}}, 0},
-    {"params longer", 0, {{PARAMS_LEN, 5}}, 0},
-    {"chroma -1", 13, {{CHROMA_AT, PLACE(3, 3)}, {CHROMA_IS, -1}}, 0},
-    {"chroma M+1", 13, {{CHROMA_AT, PLACE(3, 3)}, {CHROMA_IS, M_PLUS(1)}}, 0},
-    {"chroma M", 0, {{CHROMA_AT, PLACE(3, 3)}, {CHROMA_IS, M_PLUS(0)}}, 0},
-    {"a sum too large", 14, {{REF_WIDTH, 256}, {REF_HEIGHT, 256}, {ABOVE_LINES, 256}, {LUMA_ALL, 1}}, 0},
+    {"direction 0", LATCH_DONE, {{DIRECTION, 0}}, 0},
+    {"direction 1", LATCH_DONE, {{DIRECTION, 1}}, 0},
+    {"direction 2", LATCH_DONE, {{DIRECTION, 2}}, 0},
+    {"ref_width 0", LATCH_DONE, {{REF_WIDTH, 0}}, COUNTS},
+    {"ref_width 2", LATCH_DONE, {{REF_WIDTH, 2}}, COUNTS},
+    {"ref_width 3", LATCH_DONE, {{REF_WIDTH, 3}}, COUNTS},
+    {"ref_width 256", LATCH_DONE, {{REF_WIDTH, 256}, {ABOVE_LINES, 2}, {LEFT_LINES, 2}}, COUNTS},
+    {"ref_height 0", LATCH_DONE, {{REF_HEIGHT, 0}}, COUNTS | BIT(LUMA_MORE) | BIT(CHROMA_MORE)},
+    {"ref_height 1", LATCH_DONE, {{REF_HEIGHT, 1}}, COUNTS},
+    {"ref_height 3", LATCH_DONE, {{REF_HEIGHT, 3}}, COUNTS},
+    {"ref_height 256", LATCH_DONE, {{REF_HEIGHT, 256}, {ABOVE_LINES, 2}, {LEFT_LINES, 2}}, COUNTS},
+    {"chroma one short", LATCH_BAD_REFERENCE, {{CHROMA_MORE, -1}}, 0},
+    {"chroma empty", LATCH_BAD_REFERENCE, {{CHROMA_MORE, NONE}}, 0},
+    {"chroma longer", LATCH_DONE, {{CHROMA_MORE, 3}}, 0},
+    {"above_lines 0", LATCH_DONE, {{ABOVE_LINES, 0}}, COUNTS},
+    {"above_lines 256", LATCH_DONE, {{ABOVE_LINES, 256}}, 0},
+    {"left_lines 0", LATCH_DONE, {{LEFT_LINES, 0}}, COUNTS},
+    {"left_lines 256", LATCH_DONE, {{LEFT_LINES, 256}}, 0},
+    {"params empty", LATCH_SHORT_LIST, {{PARAMS_LEN, 0}}, 0},
+    {"params one short", LATCH_SHORT_LIST, {{PARAMS_LEN, 2}}, 0},
+    {"params longer", LATCH_DONE, {{PARAMS_LEN, 5}}, 0},
+    {"chroma -1", LATCH_BAD_COLOUR_SAMPLE, {{CHROMA_AT, PLACE(3, 3)}, {CHROMA_IS, -1}}, 0},
+    {"chroma M+1", LATCH_BAD_COLOUR_SAMPLE, {{CHROMA_AT, PLACE(3, 3)}, {CHROMA_IS, M_PLUS(1)}}, 0},
+    {"chroma M", LATCH_DONE, {{CHROMA_AT, PLACE(3, 3)}, {CHROMA_IS, M_PLUS(0)}}, 0},
+    {"a sum too large", LATCH_SUM_TOO_LARGE, {{REF_WIDTH, 256}, {REF_HEIGHT, 256}, {ABOVE_LINES, 256}, {LUMA_ALL, 1}}, 0},
 };
 
 static struct zone luma_zone, chroma_zone, params_zone;

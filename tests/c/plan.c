@@ -2,46 +2,46 @@
 #include "plan.h"
 
 static const struct fault of_row[] = {
-    {"words one short", 21, {{WORDS_MORE, -1}}, 0},
-    {"words one more", 21, {{WORDS_MORE, 1}}, 0},
-    {"words a row more", 21, {{WORDS_MORE, LATCH_ROW_WORDS}}, 0},
-    {"no words", 21, {{WORDS_MORE, NONE}}, 0},
-    {"mode 5", 3, {{MODE, 5}}, 0},
-    {"mode 260", 3, {{MODE, 260}}, 0},
-    {"mode 65535", 3, {{MODE, 65535}}, 0},
-    {"flag bit 5", 3, {{FLAGS_MORE, 1 << 5}}, 0},
-    {"flag bit 8", 3, {{FLAGS_MORE, 1 << 8}}, 0},
-    {"flag bit 15", 3, {{FLAGS_MORE, 1 << 15}}, 0},
-    {"flag bits 2 to 15", 3, {{FLAGS_MORE, 0xFFFC}}, 0},
-    {"flag bits 2 to 4", 0, {{FLAGS_MORE, 0x1C}}, 0},
-    {"differences one short", 7, {{DIFFERENCES_MORE, -1}}, 0},
-    {"differences end where the job's start", 7, {{DIFFERENCES_MORE, -16}}, 0},
-    {"differences 65536 short of their start", 7, {{START, 4096}, {DIFFERENCES_MORE, -65536}}, 0},
-    {"differences longer", 0, {{DIFFERENCES_MORE, 3}}, 0},
-    {"differences from 8000 units on", 0, {{START, 8000}}, 0},
+    {"words one short", LATCH_BAD_PLAN, {{WORDS_MORE, -1}}, 0},
+    {"words one more", LATCH_BAD_PLAN, {{WORDS_MORE, 1}}, 0},
+    {"words a row more", LATCH_BAD_PLAN, {{WORDS_MORE, LATCH_ROW_WORDS}}, 0},
+    {"no words", LATCH_BAD_PLAN, {{WORDS_MORE, NONE}}, 0},
+    {"mode 5", LATCH_BAD_MODE, {{MODE, 5}}, 0},
+    {"mode 260", LATCH_BAD_MODE, {{MODE, 260}}, 0},
+    {"mode 65535", LATCH_BAD_MODE, {{MODE, 65535}}, 0},
+    {"flag bit 5", LATCH_BAD_MODE, {{FLAGS_MORE, 1 << 5}}, 0},
+    {"flag bit 8", LATCH_BAD_MODE, {{FLAGS_MORE, 1 << 8}}, 0},
+    {"flag bit 15", LATCH_BAD_MODE, {{FLAGS_MORE, 1 << 15}}, 0},
+    {"flag bits 2 to 15", LATCH_BAD_MODE, {{FLAGS_MORE, 0xFFFC}}, 0},
+    {"flag bits 2 to 4", LATCH_DONE, {{FLAGS_MORE, 0x1C}}, 0},
+    {"differences one short", LATCH_NO_DIFFERENCES, {{DIFFERENCES_MORE, -1}}, 0},
+    {"differences end where the job's start", LATCH_NO_DIFFERENCES, {{DIFFERENCES_MORE, -16}}, 0},
+    {"differences 65536 short of their start", LATCH_NO_DIFFERENCES, {{START, 4096}, {DIFFERENCES_MORE, -65536}}, 0},
+    {"differences longer", LATCH_DONE, {{DIFFERENCES_MORE, 3}}, 0},
+    {"differences from 8000 units on", LATCH_DONE, {{START, 8000}}, 0},
 };
 
 /* In modes 0 to 3 the words 5, 6, 13 and 14 are not looked at. */
 static const struct fault of_plain_mode[] = {
-    {"direction 8", 0, {{DIRECTION, 8}}, 0},
-    {"direction 65535", 0, {{DIRECTION, 65535}}, 0},
-    {"delta word 7", 0, {{DELTA, 7}}, 0},
-    {"delta word 65535", 0, {{DELTA, 65535}}, 0},
-    {"max-width and max-height 65535", 0, {{MAX_WIDTH, 65535}, {MAX_HEIGHT, 65535}}, 0},
+    {"direction 8", LATCH_DONE, {{DIRECTION, 8}}, 0},
+    {"direction 65535", LATCH_DONE, {{DIRECTION, 65535}}, 0},
+    {"delta word 7", LATCH_DONE, {{DELTA, 7}}, 0},
+    {"delta word 65535", LATCH_DONE, {{DELTA, 65535}}, 0},
+    {"max-width and max-height 65535", LATCH_DONE, {{MAX_WIDTH, 65535}, {MAX_HEIGHT, 65535}}, 0},
 };
 
 static const struct fault of_direction[] = {
-    {"direction 0", 0, {{DIRECTION, 0}}, 0},
-    {"direction 7", 0, {{DIRECTION, 7}}, 0},
-    {"direction 8", 3, {{DIRECTION, 8}}, 0},
-    {"direction 65535", 3, {{DIRECTION, 65535}}, 0},
-    {"delta word 0", 0, {{DELTA, 0}}, 0},
-    {"delta word 6", 0, {{DELTA, 6}}, 0},
-    {"delta word 7", 3, {{DELTA, 7}}, 0},
-    {"delta word 65535", 3, {{DELTA, 65535}}, 0},
-    {"max-width 1", 0, {{MAX_WIDTH, 1}}, 0},
-    {"max-height 1", 0, {{MAX_HEIGHT, 1}}, 0},
-    {"max-width and max-height 65535", 0, {{MAX_WIDTH, 65535}, {MAX_HEIGHT, 65535}}, 0},
+    {"direction 0", LATCH_DONE, {{DIRECTION, 0}}, 0},
+    {"direction 7", LATCH_DONE, {{DIRECTION, 7}}, 0},
+    {"direction 8", LATCH_BAD_MODE, {{DIRECTION, 8}}, 0},
+    {"direction 65535", LATCH_BAD_MODE, {{DIRECTION, 65535}}, 0},
+    {"delta word 0", LATCH_DONE, {{DELTA, 0}}, 0},
+    {"delta word 6", LATCH_DONE, {{DELTA, 6}}, 0},
+    {"delta word 7", LATCH_BAD_MODE, {{DELTA, 7}}, 0},
+    {"delta word 65535", LATCH_BAD_MODE, {{DELTA, 65535}}, 0},
+    {"max-width 1", LATCH_DONE, {{MAX_WIDTH, 1}}, 0},
+    {"max-height 1", LATCH_DONE, {{MAX_HEIGHT, 1}}, 0},
+    {"max-width and max-height 65535", LATCH_DONE, {{MAX_WIDTH, 65535}, {MAX_HEIGHT, 65535}}, 0},
 };
 
 const struct faults row_faults = FAULTS(of_row);
@@ -75,7 +75,8 @@ const int16_t *differences_of(struct zone *zone, const int64_t *f, size_t *len) 
 /* The block that the mode's own call predicts. */
 static uint32_t predict(const uint16_t *row, const int32_t *above, const int32_t *left, int32_t corner, float *out) {
     typedef uint32_t predictor(uint16_t, uint16_t, const int32_t *, size_t, const int32_t *, size_t, int32_t, float *, size_t);
-    static predictor *const plain[] = {latch_paeth, latch_smooth, latch_smooth_v, latch_smooth_h};
+    static predictor *const plain[] = {[LATCH_MODE_PAETH] = latch_paeth, [LATCH_MODE_SMOOTH] = latch_smooth,
+                                       [LATCH_MODE_SMOOTH_V] = latch_smooth_v, [LATCH_MODE_SMOOTH_H] = latch_smooth_h};
     uint16_t b = row[LATCH_B], d = row[LATCH_D];
     if (row[LATCH_MODE] != LATCH_MODE_DIRECTIONAL)
         return plain[row[LATCH_MODE]](b, d, above, LATCH_EDGE_ENTRIES, left, LATCH_EDGE_ENTRIES, corner, out, 64 * 64);

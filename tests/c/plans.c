@@ -28,12 +28,15 @@ static void make_rows(void) {
 static void lengths(void) {
     enum { ROW = LATCH_ROW_WORDS, MOST = LATCH_JOBS_MOST };
     static const struct { size_t plan, order, answers; uint32_t due; } tries[] = {
-        {0, 0, 0, 0}, {0, 1, 0, 21}, {0, 0, 1, 21}, {0, 1, 1, 21}, {1, 0, 0, 21},
-        {15, 0, 0, 21}, {15, 1, 1, 21}, {16, 1, 1, 0}, {16, 0, 1, 21}, {16, 2, 1, 21}, {16, 1, 0, 21}, {16, 1, 2, 21},
-        {16, 2, 2, 21}, {17, 1, 1, 21}, {31, 1, 1, 21}, {32, 2, 2, 0},
-        {MOST * ROW, MOST, MOST, 0}, {MOST * ROW - 1, MOST, MOST, 21}, {MOST * ROW + 1, MOST, MOST, 21},
-        {MOST * ROW, MOST - 1, MOST, 21}, {MOST * ROW, MOST + 1, MOST, 21}, {MOST * ROW, MOST, MOST - 1, 21},
-        {MOST * ROW, MOST, MOST + 1, 21}, {MOST * ROW + ROW, MOST + 1, MOST + 1, 21}, {MOST * ROW + ROW, MOST, MOST, 21}};
+        {0, 0, 0, LATCH_DONE}, {0, 1, 0, LATCH_BAD_PLAN}, {0, 0, 1, LATCH_BAD_PLAN}, {0, 1, 1, LATCH_BAD_PLAN},
+        {1, 0, 0, LATCH_BAD_PLAN}, {15, 0, 0, LATCH_BAD_PLAN}, {15, 1, 1, LATCH_BAD_PLAN}, {16, 1, 1, LATCH_DONE},
+        {16, 0, 1, LATCH_BAD_PLAN}, {16, 2, 1, LATCH_BAD_PLAN}, {16, 1, 0, LATCH_BAD_PLAN}, {16, 1, 2, LATCH_BAD_PLAN},
+        {16, 2, 2, LATCH_BAD_PLAN}, {17, 1, 1, LATCH_BAD_PLAN}, {31, 1, 1, LATCH_BAD_PLAN}, {32, 2, 2, LATCH_DONE},
+        {MOST * ROW, MOST, MOST, LATCH_DONE}, {MOST * ROW - 1, MOST, MOST, LATCH_BAD_PLAN},
+        {MOST * ROW + 1, MOST, MOST, LATCH_BAD_PLAN}, {MOST * ROW, MOST - 1, MOST, LATCH_BAD_PLAN},
+        {MOST * ROW, MOST + 1, MOST, LATCH_BAD_PLAN}, {MOST * ROW, MOST, MOST - 1, LATCH_BAD_PLAN},
+        {MOST * ROW, MOST, MOST + 1, LATCH_BAD_PLAN}, {MOST * ROW + ROW, MOST + 1, MOST + 1, LATCH_BAD_PLAN},
+        {MOST * ROW + ROW, MOST, MOST, LATCH_BAD_PLAN}};
     for (size_t i = 0; i < COUNT(tries); i++) {
         struct run run = {SIDE, SIDE, NOWHERE, (const uint16_t *)rows, forward, tries[i].plan, tries[i].order, tries[i].answers};
         bool kept = false;
@@ -83,8 +86,10 @@ static void longest_backwards(void) {
 
 /* A job for each answer, 0 to 8, at its own row of the plan: whichever order they are done in, entry i is plan row i. */
 static void answers_at_rows(void) {
-    row_words jobs[9];
-    uint16_t answers[9];
+    static const uint16_t due[] = {LATCH_DONE, LATCH_BAD_SIZE, LATCH_BAD_DEPTH, LATCH_BAD_MODE, LATCH_OUTSIDE_PLANE,
+                                   LATCH_NO_NEIGHBOUR, LATCH_BAD_BASE, LATCH_NO_DIFFERENCES, LATCH_BAD_SAMPLE};
+    row_words jobs[COUNT(due)];
+    uint16_t answers[COUNT(due)];
     memcpy(jobs, rows, sizeof jobs);
     jobs[1][LATCH_B] = 5;
     jobs[2][LATCH_D] = 9;
@@ -96,14 +101,15 @@ static void answers_at_rows(void) {
     jobs[8][LATCH_Y] = 9;
     jobs[8][LATCH_FLAGS] = LATCH_HAVE_ABOVE;
     jobs[8][LATCH_AVAILABLE_ABOVE] = 1;
-    for (size_t turn = 0; turn < 9; turn++) {
-        uint16_t order[9];
-        for (size_t i = 0; i < 9; i++) order[i] = (uint16_t)((i + turn) % 9);
-        struct run run = {SIDE, SIDE, 8 * SIDE + 4 * 8, jobs[0], order, 9 * LATCH_ROW_WORDS, 9, 9};
+    for (size_t turn = 0; turn < COUNT(due); turn++) {
+        uint16_t order[COUNT(due)];
+        for (size_t i = 0; i < COUNT(due); i++) order[i] = (uint16_t)((i + turn) % COUNT(due));
+        struct run run = {SIDE, SIDE, 8 * SIDE + 4 * 8, jobs[0], order, COUNT(due) * LATCH_ROW_WORDS, COUNT(due), COUNT(due)};
         bool kept = false;
         uint32_t got = run_kept(&run, answers, &kept);
         check(got == LATCH_DONE && kept, "a job for each answer, turn %zu: %u, kept %d", turn, got, kept);
-        for (uint16_t i = 0; i < 9; i++) check(answers[i] == i, "row %u, turn %zu, is answered %u", i, turn, answers[i]);
+        for (size_t i = 0; i < COUNT(due); i++)
+            check(answers[i] == due[i], "row %zu, turn %zu, is answered %u, not %u", i, turn, answers[i], due[i]);
     }
 }
 

@@ -8,7 +8,9 @@ enum { ORDER = ROW_FIELDS, ORDER_MORE, ANSWERS_MORE };
 enum { JOBS = 3 };
 
 /* The run's own refusals, and then those of the first job, which the answer list tells. */
-static const uint32_t order[] = {20, 21, 22, 23, 1, 2, 3, 4, 5, 6, 7, 8, 0};
+static const uint32_t order[] = {
+    LATCH_BAD_PLANE, LATCH_BAD_PLAN, LATCH_NOT_EACH_ONCE, LATCH_PAIR_TURNED, LATCH_BAD_SIZE, LATCH_BAD_DEPTH, LATCH_BAD_MODE,
+    LATCH_OUTSIDE_PLANE, LATCH_NO_NEIGHBOUR, LATCH_BAD_BASE, LATCH_NO_DIFFERENCES, LATCH_BAD_SAMPLE, LATCH_DONE};
 
 /* The first row is the fields'. The two others touch, and the right one reads the left; the first row's plain block neither
  * reads nor writes what they do. They are of other depths, and need sixteen differences. */
@@ -25,27 +27,27 @@ static const uint16_t orders[][JOBS + 1] = {
 };
 
 static const struct fault faults[] = {
-    {"order one short", 21, {{ORDER_MORE, -1}}, 0},
-    {"order one longer", 21, {{ORDER_MORE, 1}}, 0},
-    {"order empty", 21, {{ORDER_MORE, NONE}}, 0},
-    {"answers one short", 21, {{ANSWERS_MORE, -1}}, 0},
-    {"answers one longer", 21, {{ANSWERS_MORE, 1}}, 0},
-    {"answers empty", 21, {{ANSWERS_MORE, NONE}}, 0},
-    {"a row less", 21, {{WORDS_MORE, -LATCH_ROW_WORDS}}, 0},
-    {"order and answers of two", 21, {{ORDER_MORE, -1}, {ANSWERS_MORE, -1}}, BIT(WORDS_MORE)},
-    {"order 1 0 2", 0, {{ORDER, 1}}, ABOVE_BITS | LEFT_BITS},
-    {"order 1 2 0", 0, {{ORDER, 2}}, ABOVE_BITS | LEFT_BITS},
-    {"order 0 2 1", 23, {{ORDER, 3}}, 0},
-    {"order 2 1 0", 23, {{ORDER, 4}}, 0},
-    {"order 2 0 1", 23, {{ORDER, 5}}, 0},
-    {"order 0 1 1", 22, {{ORDER, 6}}, 0},
-    {"order 0 0 2", 22, {{ORDER, 7}}, 0},
-    {"order 2 2 2", 22, {{ORDER, 8}}, 0},
-    {"order 0 1 3", 22, {{ORDER, 9}}, 0},
-    {"order 3 1 2", 22, {{ORDER, 10}}, 0},
-    {"order 0 1 65535", 22, {{ORDER, 11}}, 0},
-    {"order 2 1 1", 22, {{ORDER, 12}}, 0},
-    {"order 0 257 2", 22, {{ORDER, 13}}, 0},
+    {"order one short", LATCH_BAD_PLAN, {{ORDER_MORE, -1}}, 0},
+    {"order one longer", LATCH_BAD_PLAN, {{ORDER_MORE, 1}}, 0},
+    {"order empty", LATCH_BAD_PLAN, {{ORDER_MORE, NONE}}, 0},
+    {"answers one short", LATCH_BAD_PLAN, {{ANSWERS_MORE, -1}}, 0},
+    {"answers one longer", LATCH_BAD_PLAN, {{ANSWERS_MORE, 1}}, 0},
+    {"answers empty", LATCH_BAD_PLAN, {{ANSWERS_MORE, NONE}}, 0},
+    {"a row less", LATCH_BAD_PLAN, {{WORDS_MORE, -LATCH_ROW_WORDS}}, 0},
+    {"order and answers of two", LATCH_BAD_PLAN, {{ORDER_MORE, -1}, {ANSWERS_MORE, -1}}, BIT(WORDS_MORE)},
+    {"order 1 0 2", LATCH_DONE, {{ORDER, 1}}, ABOVE_BITS | LEFT_BITS},
+    {"order 1 2 0", LATCH_DONE, {{ORDER, 2}}, ABOVE_BITS | LEFT_BITS},
+    {"order 0 2 1", LATCH_PAIR_TURNED, {{ORDER, 3}}, 0},
+    {"order 2 1 0", LATCH_PAIR_TURNED, {{ORDER, 4}}, 0},
+    {"order 2 0 1", LATCH_PAIR_TURNED, {{ORDER, 5}}, 0},
+    {"order 0 1 1", LATCH_NOT_EACH_ONCE, {{ORDER, 6}}, 0},
+    {"order 0 0 2", LATCH_NOT_EACH_ONCE, {{ORDER, 7}}, 0},
+    {"order 2 2 2", LATCH_NOT_EACH_ONCE, {{ORDER, 8}}, 0},
+    {"order 0 1 3", LATCH_NOT_EACH_ONCE, {{ORDER, 9}}, 0},
+    {"order 3 1 2", LATCH_NOT_EACH_ONCE, {{ORDER, 10}}, 0},
+    {"order 0 1 65535", LATCH_NOT_EACH_ONCE, {{ORDER, 11}}, 0},
+    {"order 2 1 1", LATCH_NOT_EACH_ONCE, {{ORDER, 12}}, 0},
+    {"order 0 257 2", LATCH_NOT_EACH_ONCE, {{ORDER, 13}}, 0},
 };
 
 static struct zone plane_zone, differences_zone;

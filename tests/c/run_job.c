@@ -3,11 +3,13 @@
 
 #include "plan.h"
 
-static const uint32_t order[] = {20, 21, 1, 2, 3, 4, 5, 6, 7, 8, 0};
+static const uint32_t order[] = {
+    LATCH_BAD_PLANE, LATCH_BAD_PLAN, LATCH_BAD_SIZE, LATCH_BAD_DEPTH, LATCH_BAD_MODE, LATCH_OUTSIDE_PLANE, LATCH_NO_NEIGHBOUR,
+    LATCH_BAD_BASE, LATCH_NO_DIFFERENCES, LATCH_BAD_SAMPLE, LATCH_DONE};
 
 static const struct fault faults[] = {
-    {"no differences", 7, {{DIFFERENCES_MORE, NONE}}, 0},
-    {"no differences, start 0", 7, {{START, 0}, {DIFFERENCES_MORE, NONE}}, 0},
+    {"no differences", LATCH_NO_DIFFERENCES, {{DIFFERENCES_MORE, NONE}}, 0},
+    {"no differences, start 0", LATCH_NO_DIFFERENCES, {{START, 0}, {DIFFERENCES_MORE, NONE}}, 0},
 };
 
 static struct zone plane_zone, row_zone, differences_zone;
@@ -48,7 +50,8 @@ static void try_alone(const struct call *call, const char *name, uint32_t due, c
 /* The ends of what a plane's sides may be, with a block that the smallest plane holds. */
 static void try_sides(const struct call *call) {
     static const struct { int64_t width, height; uint32_t due; } sides[] = {
-        {3, 8, 20}, {4, 8, 0}, {4096, 8, 0}, {4097, 8, 20}, {8, 3, 20}, {8, 4, 0}, {8, 4096, 0}, {8, 4097, 20}, {4, 4, 0}};
+        {3, 8, LATCH_BAD_PLANE}, {4, 8, LATCH_DONE}, {4096, 8, LATCH_DONE}, {4097, 8, LATCH_BAD_PLANE}, {8, 3, LATCH_BAD_PLANE},
+        {8, 4, LATCH_DONE}, {8, 4096, LATCH_DONE}, {8, 4097, LATCH_BAD_PLANE}, {4, 4, LATCH_DONE}};
     for (size_t i = 0; i < COUNT(sides); i++) {
         const int64_t f[FIELDS_MOST] = {[WIDTH] = sides[i].width, [HEIGHT] = sides[i].height, [B] = 4, [D] = call->plain[D],
                                         [MODE] = call->plain[MODE], [BASE] = 128, [SAMPLE_AT] = NOWHERE};

@@ -62,5 +62,5 @@ void test_stack(void) {
     check(started, "no thread with a stack of %d bytes", STACK);
     if (started) pthread_join(thread, NULL);
     check(number == LATCH_DONE, "in a small stack: %u", number);
-    for (int j = 0; j < JOBS; j++) check(answers[j] == 0, "in a small stack, job %d: %u", j, answers[j]);
+    for (int j = 0; j < JOBS; j++) check(answers[j] == LATCH_DONE, "in a small stack, job %d: %u", j, answers[j]);
 }

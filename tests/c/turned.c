@@ -14,7 +14,7 @@ static const row_words touching[2] = {
      [LATCH_BOTTOM_LEFT] = 1, [LATCH_BASE] = 128},
 };
 
-/* The touching blocks with one word set, done in an order; the answers that are then due, or 23. */
+/* The touching blocks with one word set, done in an order; the answers that are then due, or LATCH_PAIR_TURNED. */
 static void ordered(const char *name, const uint16_t *order, int job, int word, uint16_t value, int64_t nan_at, uint32_t due,
                     uint16_t first, uint16_t second) {
     row_words jobs[2];
@@ -56,20 +56,23 @@ static void between(void) {
 
 void test_turned(void) {
     between();
-    named("job order written backwards on two touching blocks, the right one reading the left", 0, LATCH_X, 4, NOWHERE, 23, 0, 0);
-    named("two touching blocks, neither reading", 1, LATCH_FLAGS, 0, NOWHERE, 0, 0, 0);
-    ordered("a job that 8 refuses, in the plan's order", forwards, 1, LATCH_X, 8, 8 * SIDE + 7, 0, 0, 8);
-    named("a job that 8 refuses still clashes", 1, LATCH_X, 8, 8 * SIDE + 7, 23, 0, 0);
-    named("a job that 1 refuses", 0, LATCH_B, 5, NOWHERE, 0, 1, 0);
-    named("a reader that 1 refuses", 1, LATCH_B, 0, NOWHERE, 0, 0, 1);
-    named("a job that 2 refuses", 0, LATCH_D, 9, NOWHERE, 0, 2, 0);
-    named("a reader that 2 refuses", 1, LATCH_D, 0, NOWHERE, 0, 0, 2);
-    named("a job that 3 refuses", 0, LATCH_MODE, 5, NOWHERE, 0, 3, 0);
-    named("a reader that 3 refuses", 1, LATCH_FLAGS, 32 | LATCH_HAVE_LEFT, NOWHERE, 0, 0, 3);
-    named("a job that 4 refuses", 0, LATCH_Y, SIDE - 3, NOWHERE, 0, 4, 0);
-    named("a reader that 4 refuses", 1, LATCH_Y, SIDE - 3, NOWHERE, 0, 0, 4);
-    named("a reader that 5 refuses", 1, LATCH_AVAILABLE_LEFT, 0, NOWHERE, 0, 0, 5);
-    named("a job that 6 refuses", 0, LATCH_BASE, 0, NOWHERE, 0, 6, 0);
-    named("a job that 7 refuses", 0, LATCH_DIFFERENCES, 5, NOWHERE, 0, 7, 0);
-    named("a reader that 7 refuses", 1, LATCH_DIFFERENCES, 65535, NOWHERE, 0, 0, 7);
+    named("job order written backwards on two touching blocks, the right one reading the left", 0, LATCH_X, 4, NOWHERE,
+          LATCH_PAIR_TURNED, LATCH_DONE, LATCH_DONE);
+    named("two touching blocks, neither reading", 1, LATCH_FLAGS, 0, NOWHERE, LATCH_DONE, LATCH_DONE, LATCH_DONE);
+    ordered("a job that 8 refuses, in the plan's order", forwards, 1, LATCH_X, 8, 8 * SIDE + 7, LATCH_DONE, LATCH_DONE,
+            LATCH_BAD_SAMPLE);
+    named("a job that 8 refuses still clashes", 1, LATCH_X, 8, 8 * SIDE + 7, LATCH_PAIR_TURNED, LATCH_DONE, LATCH_DONE);
+    named("a job that 1 refuses", 0, LATCH_B, 5, NOWHERE, LATCH_DONE, LATCH_BAD_SIZE, LATCH_DONE);
+    named("a reader that 1 refuses", 1, LATCH_B, 0, NOWHERE, LATCH_DONE, LATCH_DONE, LATCH_BAD_SIZE);
+    named("a job that 2 refuses", 0, LATCH_D, 9, NOWHERE, LATCH_DONE, LATCH_BAD_DEPTH, LATCH_DONE);
+    named("a reader that 2 refuses", 1, LATCH_D, 0, NOWHERE, LATCH_DONE, LATCH_DONE, LATCH_BAD_DEPTH);
+    named("a job that 3 refuses", 0, LATCH_MODE, 5, NOWHERE, LATCH_DONE, LATCH_BAD_MODE, LATCH_DONE);
+    named("a reader that 3 refuses", 1, LATCH_FLAGS, ALL_FLAGS + 1 + LATCH_HAVE_LEFT, NOWHERE, LATCH_DONE, LATCH_DONE,
+          LATCH_BAD_MODE);
+    named("a job that 4 refuses", 0, LATCH_Y, SIDE - 3, NOWHERE, LATCH_DONE, LATCH_OUTSIDE_PLANE, LATCH_DONE);
+    named("a reader that 4 refuses", 1, LATCH_Y, SIDE - 3, NOWHERE, LATCH_DONE, LATCH_DONE, LATCH_OUTSIDE_PLANE);
+    named("a reader that 5 refuses", 1, LATCH_AVAILABLE_LEFT, 0, NOWHERE, LATCH_DONE, LATCH_DONE, LATCH_NO_NEIGHBOUR);
+    named("a job that 6 refuses", 0, LATCH_BASE, 0, NOWHERE, LATCH_DONE, LATCH_BAD_BASE, LATCH_DONE);
+    named("a job that 7 refuses", 0, LATCH_DIFFERENCES, 5, NOWHERE, LATCH_DONE, LATCH_NO_DIFFERENCES, LATCH_DONE);
+    named("a reader that 7 refuses", 1, LATCH_DIFFERENCES, 65535, NOWHERE, LATCH_DONE, LATCH_DONE, LATCH_NO_DIFFERENCES);
 }
