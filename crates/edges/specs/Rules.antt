@@ -6,6 +6,7 @@ use lib.Dec.{leb, eqb}
 use lib.IntN.{pos}
 use lib.Ieee.{Float, nan}
 use lib.ListN.{length, getD}
+use Rattle.numbers.specs.Limits.{leastSide, mostSide, refCap}
 use Rattle.numbers.specs.Size.{isSize}
 use Rattle.numbers.specs.Depth.{isDepth, most}
 use Rattle.numbers.specs.declared.answer.Answer.{Answer}
@@ -18,7 +19,7 @@ use Rattle.edges.specs.Behind.{Behind, place, number, aboveBehind, leftB
 
 -- "A plane is W by H samples of f32, W and H from 4 to 4,096." 20: "W or H out of range, or the plane's length is not W x H"
 abbrev pub inRange : ℕ → Bool
-inRange n = leb 4 n && leb n 4096
+inRange n = leb leastSide n && leb n mostSide
 
 unfoldable pub isPlane : ℕ → ℕ → ℕ → Bool
 isPlane W H n = inRange W && inRange H && eqb n (W * H)
@@ -43,7 +44,7 @@ isBase s = s .«have_above» || s .«have_left» || (leb 1 (s .base) && leb (s .
 
 -- "an edge output under 128"; the corner's output has one entry
 unfoldable pub isLong : ℕ → ℕ → ℕ → Bool
-isLong above left corner = leb 128 above && leb 128 left && leb 1 corner
+isLong above left corner = leb refCap above && leb refCap left && leb 1 corner
 
 -- the plane's sample at a row and a column
 abbrev pub sampleAt : ℕ → List Float → ℕ → ℕ → Float

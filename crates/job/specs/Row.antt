@@ -2,6 +2,7 @@
 use mathlib.Core.List.{List}
 use Prim.Native.Nat.{ℕ, _*_}
 use lib.ListN.{getD, take, drop}
+use Rattle.numbers.specs.Limits.{rowWords}
 use Rattle.numbers.specs.Flag.{isSet}
 use Rattle.numbers.specs.Word.{wordPlace}
 use Rattle.numbers.specs.declared.flag.Flag.the-variants.{Above, Left}
@@ -14,7 +15,7 @@ Row = List ℕ
 
 -- row i of a plan
 abbrev pub rowAt : List ℕ → ℕ → Row
-rowAt plan i = take 16 (drop (16 * i) plan)
+rowAt plan i = take rowWords (drop (rowWords * i) plan)
 
 abbrev pub word : Row → Word → ℕ
 word row w = getD row (wordPlace w) 0

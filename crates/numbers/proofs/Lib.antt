@@ -3,4 +3,5 @@ pub mod Look
 pub mod Agree
 pub mod Named
 pub mod Angle
+pub mod Modes
 pub mod Place

@@ -2,10 +2,9 @@
 -- Here for the enums that the code only names. Assumes nothing.
 use mathlib.Core.Path.{_≡_, refl, sym, subst}
 use mathlib.Core.Bool.{true}
-use lib.IntN.{ℤ}
 use Prim.Native.Nat.{ℕ}
 use native.Mathlib.Omega.{arith}
-use borrow.Author.Tests.{eqb-true}
+use borrow.Author.Tests.{eqb-true, eq-eqb}
 use Rattle.numbers.specs.Look.{only, nothing}
 use Rattle.numbers.specs.Flag.{flagBit, flags, flagOf}
 use Rattle.numbers.specs.declared.flag.Flag.{Flag}
@@ -16,10 +15,7 @@ use Rattle.numbers.specs.declared.word.Word.the-variants.{X, Y, Side, Bi
 use Rattle.numbers.specs.Answer.{answerNumber, answers, answerOf, isDone}
 use Rattle.numbers.specs.declared.answer.Answer.{Answer}
 use Rattle.numbers.specs.declared.answer.Answer.the-variants.{Done, BadSize, BadDepth, BadMode, OutsidePlane, NoNeighbour, BadBase, NoDifferences, BadSample, ShortList, BadColourDirection, BadReference, BadLines, BadColourSample, SumTooLarge, BadPlane, BadPlan, NotEachOnce, PairTurned}
-use Rattle.numbers.specs.Mode.{modeNumber, modes, modeOf}
-use Rattle.numbers.specs.declared.dir.Dir.{Dir}
-use Rattle.numbers.specs.declared.mode.Mode.{Mode}
-use Rattle.numbers.proofs.Look.{look-back, Every}
+use Rattle.numbers.proofs.Look.{look-back}
 
 -- the number of what is found, for any enum
 module _ {E : Type 0} where
@@ -84,16 +80,18 @@ answer-there PairTurned = refl
 pub answer-back : (n : ℕ) (e : Answer) → answerOf n ≡ only e → answerNumber e ≡ n
 answer-back n e h = look-back answerNumber only nothing same none answers n e h
 
--- the direction and the delta are the row's
-pub mode-there : (d : Dir) (delta : ℤ) → Every (λ e. modeOf d delta (modeNumber e) ≡ only e) (modes d delta)
-mode-there d delta = (refl, (refl, (refl, (refl, (refl, tt)))))
-
-pub mode-back : (d : Dir) (delta : ℤ) (n : ℕ) (e : Mode) → modeOf d delta n ≡ only e → modeNumber e ≡ n
-mode-back d delta n e h = look-back modeNumber only nothing same none (modes d delta) n e h
-
--- done is the one answer whose number is 0
+-- done is the one answer that has its number
 pub done-is : (a : Answer) → isDone a ≡ true → a ≡ Done
 unfolding isDone
 done-is a h =
-    let z : answerOf 0 ≡ only a = subst (λ n. answerOf n ≡ only a) (eqb-true (answerNumber a) 0 h) (answer-there a) in
+    let z : answerOf (answerNumber Done) ≡ only a = subst (λ n. answerOf n ≡ only a) (eqb-true (answerNumber a) (answerNumber Done) h) (answer-there a) in
     sym (same Done a z)
+
+-- the answer by its number, both ways
+pub done-number : (a : Answer) → isDone a ≡ true → answerNumber a ≡ answerNumber Done
+unfolding isDone
+done-number a h = eqb-true (answerNumber a) (answerNumber Done) h
+
+pub number-done : (a : Answer) → answerNumber a ≡ answerNumber Done → isDone a ≡ true
+unfolding isDone
+number-done a h = eq-eqb (answerNumber a) (answerNumber Done) h

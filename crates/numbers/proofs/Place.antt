@@ -1,14 +1,20 @@
--- The places of a row's words are below 16, and the answers' numbers at most 23. Assumes nothing.
+-- A row has as many words as there are names of them, each in its own place below 16; the answers' numbers are at most 23. Assumes nothing.
+use mathlib.Core.Path.{_≡_, refl}
 use Prim.Native.Nat.{_≤_, _<_}
 use native.Mathlib.Omega.{arith}
+use lib.ListN.{length}
+use Rattle.numbers.specs.Limits.{rowWords}
 use Rattle.numbers.specs.Answer.{answerNumber}
 use Rattle.numbers.specs.declared.answer.Answer.{Answer}
 use Rattle.numbers.specs.declared.answer.Answer.the-variants.{Done, BadSize, BadDepth, BadMode, OutsidePlane, NoNeighbour, BadBase, NoDifferences, BadSample, ShortList, BadColourDirection, BadReference, BadLines, BadColourSample, SumTooLarge, BadPlane, BadPlan, NotEachOnce, PairTurned}
-use Rattle.numbers.specs.Word.{wordPlace}
+use Rattle.numbers.specs.Word.{wordPlace, words}
 use Rattle.numbers.specs.declared.word.Word.{Word}
 use Rattle.numbers.specs.declared.word.Word.the-variants.{X, Y, Side, Bits, ModeWord, DirectionWord, DeltaWord, FlagWord, TopRight, BottomLeft, AvailableAbove, AvailableLeft, Base, MaxWidth, MaxHeight, Differences}
 
-pub word-below : (w : Word) → wordPlace w < 16
+pub word-count : length words ≡ rowWords
+word-count = refl
+
+pub word-below : (w : Word) → wordPlace w < rowWords
 word-below X = omega arith
 word-below Y = omega arith
 word-below Side = omega arith

@@ -1,4 +1,4 @@
--- "Refusal numbers, in order of checking"; "0 is done".
+-- "Refusal numbers, in order of checking"; "0 is done": answerNumber alone says which number is done's.
 use mathlib.Core.Bool.{Bool}
 use mathlib.Core.List.{List, [], _∷_}
 use Prim.Native.Nat.{ℕ}
@@ -38,6 +38,6 @@ answers =
 abbrev pub answerOf : ℕ → Maybe Answer
 answerOf n = look answerNumber only nothing answers n
 
--- "0 is done"
+-- the number is done's
 unfoldable pub isDone : Answer → Bool
-isDone a = eqb (answerNumber a) 0
+isDone a = eqb (answerNumber a) (answerNumber Done)

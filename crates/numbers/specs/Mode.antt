@@ -1,12 +1,12 @@
 -- "Modes: 0 Paeth, 1 smooth, 2 smooth_v, 3 smooth_h, 4 a direction with its delta."
+use mathlib.Core.Path.{_≡_}
 use mathlib.Core.Bool.{Bool, true, false, cond}
 use mathlib.Core.List.{List, [], _∷_}
-use Prim.Native.Nat.{ℕ}
+use Prim.Native.Nat.{ℕ, _≤_}
 use lib.Dec.{eqb}
-use lib.IntN.{ℤ}
-use Rattle.numbers.specs.Look.{look, Maybe, only, nothing}
-use Rattle.numbers.specs.Dir.{dirOf, isDelta, deltaOf}
-use Rattle.numbers.specs.declared.dir.Dir.{Dir}
+use lib.IntN.{pos, natAbs, _+ℤ_}
+use Rattle.numbers.specs.Look.{look}
+use Rattle.numbers.specs.Dir.{dirNumber, dirOf, isDelta, deltaOf}
 use Rattle.numbers.specs.declared.dir.FoundDir.{FoundDir}
 use Rattle.numbers.specs.declared.dir.FoundDir.the-variants as found-dir
 use Rattle.numbers.specs.declared.mode.Mode.{Mode}
@@ -25,13 +25,6 @@ modeNumber Smooth = 1
 modeNumber SmoothV = 2
 modeNumber SmoothH = 3
 modeNumber (Directional d delta) = directionMode
-
-abbrev pub modes : Dir → ℤ → List Mode
-modes d delta = Paeth ∷ Smooth ∷ SmoothV ∷ SmoothH ∷ Directional d delta ∷ []
-
--- number to case; the direction and the delta are those of the row, and count in mode 4 alone
-abbrev pub modeOf : Dir → ℤ → ℕ → Maybe Mode
-modeOf d delta n = look modeNumber only nothing (modes d delta) n
 
 -- ---- the mode that a row's words name: "Words 5, 6, 13 and 14 are looked at only in mode 4."
 
@@ -53,3 +46,19 @@ namedMode mode direction delta =
 abbrev pub isFound : FoundMode → Bool
 isFound (Is mode) = true
 isFound NoMode = false
+
+-- ---- the words that stand for a mode: its number, and in mode 4 its direction's number and its delta + 3. The others count in mode 4 alone.
+abbrev pub StandFor : ℕ → ℕ → ℕ → Mode → Type 0
+StandFor mode direction delta Paeth = mode ≡ modeNumber Paeth
+StandFor mode direction delta Smooth = mode ≡ modeNumber Smooth
+StandFor mode direction delta SmoothV = mode ≡ modeNumber SmoothV
+StandFor mode direction delta SmoothH = mode ≡ modeNumber SmoothH
+StandFor mode direction delta (Directional d z) = (mode ≡ directionMode) × (direction ≡ dirNumber d) × (pos delta ≡ z +ℤ pos 3)
+
+-- "delta -3 to 3"
+abbrev pub DeltaInRange : Mode → Type 0
+DeltaInRange Paeth = Unit
+DeltaInRange Smooth = Unit
+DeltaInRange SmoothV = Unit
+DeltaInRange SmoothH = Unit
+DeltaInRange (Directional d z) = natAbs z ≤ 3

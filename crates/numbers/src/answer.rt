@@ -56,6 +56,6 @@ impl Answer {
     pub fn is_done(self) -> bool
         ensures { λ r. ⌜ r ≡ isDone self ⌝ }
     {
-        self.number() == 0
+        self.number() == Answer::Done.number()
     }
 }

@@ -1,8 +1,5 @@
 // "A plane is W by H samples of f32, W and H from 4 to 4,096." (document 01, Ranges and numbers that name things)
-pub struct Plane {
-    pub width: usize,
-    pub height: usize,
-}
+pub struct Plane;
 
 impl Plane {
     pub const LEAST: usize = 4;

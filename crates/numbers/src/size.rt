@@ -16,9 +16,7 @@ pub enum FoundSize {
 }
 
 impl Size {
-    // The largest B of the five, and twice that: how many entries an edge output has, `REF_CAP` of intrapred.rs.
-    pub const LARGEST: usize = 64;
-
+    // Twice the largest B: how many entries an edge output has.
     pub const REF_CAP: usize = 128;
 
     // The size whose B the word is.

@@ -3,13 +3,14 @@ use mathlib.Core.Bool.{Bool}
 use mathlib.Core.List.{List}
 use Prim.Native.Nat.{ℕ, _/_}
 use lib.ListN.{length}
+use Rattle.numbers.specs.Limits.{rowWords}
 use Rattle.reorder.specs.Check.{onceB, keptB}
 use Rattle.job.specs.Row.{rowAt}
 use Rattle.job.specs.Rects.{clashOf}
 
 -- how many jobs a plan has: "A job is a row of sixteen 16-bit words"
 abbrev pub jobsIn : List ℕ → ℕ
-jobsIn plan = length plan / 16
+jobsIn plan = length plan / rowWords
 
 -- "the order does not hold each job's index once"
 unfoldable pub isOnce : List ℕ → List ℕ → Bool

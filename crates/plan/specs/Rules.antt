@@ -4,6 +4,7 @@ use mathlib.Core.List.{List, [], _∷_}
 use Prim.Native.Nat.{ℕ, _%_}
 use lib.Dec.{leb, eqb}
 use lib.ListN.{length}
+use Rattle.numbers.specs.Limits.{mostJobs, rowWords}
 use Rattle.numbers.specs.declared.answer.Answer.{Answer}
 use Rattle.numbers.specs.declared.answer.Answer.the-variants.{BadPlane, BadPlan, NotEachOnce, PairTurned}
 use Rattle.ladder.specs.Ladder.{Rule, _else_, ladder}
@@ -12,7 +13,7 @@ use Rattle.order.specs.Rules.{jobsIn, isOnce, isKept}
 
 -- "A plan has 0 to 1,024 jobs." 21: "plan not whole rows or above 1,024 jobs; order or answer list not one entry a job"
 unfoldable pub isPlan : List ℕ → ℕ → ℕ → Bool
-isPlan plan order answers = eqb (length plan % 16) 0 && leb (jobsIn plan) 1024 && eqb order (jobsIn plan) && eqb answers (jobsIn plan)
+isPlan plan order answers = eqb (length plan % rowWords) 0 && leb (jobsIn plan) mostJobs && eqb order (jobsIn plan) && eqb answers (jobsIn plan)
 
 -- a run whose plane has `samples` entries and whose answer list has `answers`
 abbrev pub runRules : ℕ → ℕ → ℕ → ℕ → List ℕ → List ℕ → ℕ → List Rule

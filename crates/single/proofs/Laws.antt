@@ -12,8 +12,8 @@ use lib.IntN.{ℤ}
 use lib.Ieee.{Float, nan}
 use lib.ListN.{length, getD}
 use lib.Seq.{ext-getD}
-use borrow.Author.Tests.{eqb-true, eq-eqb}
 use Rattle.numbers.specs.Answer.{answerNumber, isDone}
+use Rattle.numbers.proofs.Named.{done-number, number-done}
 use Rattle.numbers.specs.declared.answer.Answer.{Answer}
 use Rattle.reorder.specs.Jobs.{Laws, BlockLaws, Agree}
 use Rattle.reorder.specs.Rect.{In}
@@ -32,15 +32,6 @@ use Rattle.job.proofs.Stands.{standing, done-stands}
 use Rattle.single.proofs.Painted.{painted-length, painted-in, painted-out}
 use Rattle.single.proofs.Local.{answer-same, written-same}
 use Rattle.job.proofs.Exact.{writes-wide, writes-exact}
-
--- the number 0 is done
-number-done : (a : Answer) → answerNumber a ≡ 0 → isDone a ≡ true
-unfolding isDone
-number-done a e = eq-eqb _ _ e
-
-done-number : (a : Answer) → isDone a ≡ true → answerNumber a ≡ 0
-unfolding isDone
-done-number a e = eqb-true _ _ e
 
 module _ (W H : ℕ) (differences : List ℤ) where
   abbrev answerOf : Row → List Float → Answer

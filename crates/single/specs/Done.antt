@@ -6,6 +6,7 @@ use lib.Dec.{eqb}
 use lib.IntN.{ℤ}
 use lib.Ieee.{Float, nan}
 use lib.ListN.{length, getD}
+use Rattle.numbers.specs.Limits.{rowWords}
 use Rattle.numbers.specs.declared.answer.Answer.{Answer}
 use Rattle.numbers.specs.declared.answer.Answer.the-variants.{BadPlane, BadPlan}
 use Rattle.lists.specs.Fill.{tab}
@@ -30,7 +31,7 @@ jobDone W H differences row plane =
 
 -- ---- "a single job 20, 21, then the same"; 21: "a single job not 16 words"
 abbrev pub singleRules : ℕ → ℕ → ℕ → Row → List Float → List Rule
-singleRules W H n row plane = isPlane W H (length plane) else BadPlane ∷ eqb (length row) 16 else BadPlan ∷ (rowRules W H n row ++ sampleRules W (specOf row) plane)
+singleRules W H n row plane = isPlane W H (length plane) else BadPlane ∷ eqb (length row) rowWords else BadPlan ∷ (rowRules W H n row ++ sampleRules W (specOf row) plane)
 
 unfoldable pub singleAnswer : ℕ → ℕ → ℕ → Row → List Float → Answer
 singleAnswer W H n row plane = ladder (singleRules W H n row plane)
