@@ -7,7 +7,8 @@ use Rattle.samples.specs.Sample.{reading}
 use Rattle.line.specs.Along.{along}
 use Rattle.edges.specs.Behind.{aboveBehind, leftBehind, cornerBehind}
 use Rattle.paeth.specs.Paeth.{paeth}
-use Rattle.smooth.specs.Smooth.{log2, scale, weight, blend}
+use Rattle.smooth_weights.specs.Weights.{log2, scale, weight}
+use Rattle.smooth.specs.Smooth.{blend}
 use Rattle.interp.specs.Interp.{clip, taps2, between}
 use Rattle.filter.specs.Strength.{strength}
 use Rattle.filter.specs.Filter.{edge, filtered, cornerOf}

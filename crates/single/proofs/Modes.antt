@@ -23,7 +23,9 @@ use Rattle.zint.specs.Range.{inside, Edge}
 use Rattle.zint.proofs.Range.{inside-abs, inside-more}
 use Rattle.lists.specs.Block.{block}
 use Rattle.calls.proofs.Accepted.{depth-most}
-use Rattle.smooth.specs.Parts.{Entries}
+use Rattle.calls.proofs.Given.{given-more}
+use Rattle.calls.specs.Given.{Given}
+use Rattle.smooth.proofs.Ready.{no-corner}
 use Rattle.job.specs.Row.{Row, word}
 use Rattle.numbers.specs.Mode.{directedMode, namedMode}
 use Rattle.job.specs.Mode.{rowMode}
@@ -75,13 +77,19 @@ module _ {job : Job} {above left : List ℤ} {k : ℤ} {n : ℕ} (g : Ready job 
     (edge-small above B (omega arith) (g .above-in), edge-small left B (omega arith) (g .left-in), omega (arith, inside-abs (most (job .spec .d)) k (g .corner-in), depth-most (job .spec .d) (g .depth))),
   )
 
-  pub smooth-asks : (isSize B ≡ true) × Entries above (2 * B) × Entries left (2 * B) × (B * B ≤ n)
-  smooth-asks = (
-    g .size,
-    record { long = g .above-long; samples = edge-small above (2 * B) (omega arith) (g .above-in) },
-    record { long = g .left-long; samples = edge-small left (2 * B) (omega arith) (g .left-in) },
-    g .out-long,
-  )
+  all-asks : Given B 4095 above left k n
+  all-asks = given-more (depth-most (job .spec .d) (g .depth)) (record {
+    size = g .size;
+    above-long = g .above-long;
+    left-long = g .left-long;
+    out-long = g .out-long;
+    above-in = g .above-in;
+    left-in = g .left-in;
+    corner-in = g .corner-in;
+  })
+
+  pub smooth-asks : Given B 4095 above left (pos 0) n
+  smooth-asks = no-corner all-asks
 
 -- a block by the job's predictor
 pub block-is : (job : Job) (mode : Mode) (above left : List ℤ) (k : ℤ) (out after : List Float) → job .mode ≡ mode

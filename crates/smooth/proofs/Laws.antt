@@ -2,17 +2,25 @@
 use mathlib.Core.Path.{_≡_, sym, _∙_}
 use mathlib.Core.Bool.{true}
 use mathlib.Core.List.{List}
-use Prim.Native.Nat.{ℕ, _-_, _*_, _^_, _≤_, _<_}
+use Prim.Native.Nat.{ℕ, _-_, _*_, _/_, _^_, _≤_, _<_}
 use native.Mathlib.Omega.{arith}
 use lib.IntN.{ℤ, pos, natAbs}
+use lib.Pow.{pow-pos}
 use Rattle.numbers.specs.Size.{isSize}
 use Rattle.zint.specs.Range.{inside, Edge}
+use Rattle.zint.proofs.Mean.{mean-is}
 use Rattle.zint.proofs.Range.{inside-abs, inside-pos, pos-inside}
-use Rattle.smooth.specs.Smooth.{log2, scale, weight, blend, smoothed, entry, smoothVAt, smoothHAt, smoothAt}
-use Rattle.smooth.specs.Parts.{part, weighed, mean}
-use Rattle.smooth.proofs.Natural.{blend-is, weighed-most}
-use Rattle.smooth.proofs.Sizes.{sized, size-some}
-use Rattle.smooth.proofs.Table.{weight-most}
+use Rattle.smooth_steps.specs.Parts.{entry, part, weighed, mean}
+use Rattle.smooth_steps.proofs.Parts.{weighed-most}
+use Rattle.smooth_weights.specs.Weights.{log2, scale, weight}
+use Rattle.smooth_weights.proofs.Sizes.{sized, size-some}
+use Rattle.smooth_weights.proofs.Table.{weight-most}
+use Rattle.smooth.specs.Smooth.{blend, smoothed, smoothVAt, smoothHAt, smoothAt}
+
+-- one step
+blend-is : (k x y w : ℕ) → w ≤ 2 ^ k → blend k (pos x) (pos y) (pos w) ≡ pos (part (2 ^ k) x y w)
+unfolding blend part
+blend-is k x y w h = mean-is x y w (2 ^ k / 2) (2 ^ k) (pow-pos k) h
 
 module _ (B : ℕ) (size : isSize B ≡ true) (M : ℕ) (e t : ℤ) (y : ℕ) (he : inside (pos M) e ≡ true) (ht : inside (pos M) t ≡ true) where
   abbrev v : ℕ

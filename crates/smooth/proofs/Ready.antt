@@ -10,29 +10,45 @@ use lib.ListN.{length, getD}
 use mir.Syntax.{w32}
 use mir.Val.{toZ, ofZ}
 use Rattle.numbers.specs.Size.{isSize}
-use Rattle.numbers.specs.Depth.{most}
 use Rattle.zint.specs.Range.{inside}
-use Rattle.zint.proofs.Range.{inside-more}
+use Rattle.zint.proofs.Range.{pos-inside}
 use Rattle.lists.specs.Fill.{tab}
 use Rattle.lists.proofs.Fill.{length-tab, tab-at}
+use Rattle.calls.specs.Given.{Given}
 use Rattle.calls.proofs.Accepted.{Accepted, size-most, depth-most}
-use Rattle.smooth.specs.Smooth.{log2, scale, weight, entry, smoothed}
-use Rattle.smooth.specs.Parts.{weighed, reachOf, Step, Entries, Weights}
+use Rattle.calls.proofs.Given.{given, given-more}
+use Rattle.smooth_steps.specs.Parts.{entry, weighed, Step, Entries, Weights}
+use Rattle.smooth_steps.proofs.Steps.{entry-in, entry-abs, entry-most}
+use Rattle.smooth_weights.specs.Weights.{log2, scale, weight}
+use Rattle.smooth_weights.specs.Reach.{reachOf}
+use Rattle.smooth_weights.proofs.Sizes.{sized, size-some}
+use Rattle.smooth_weights.proofs.Table.{weight-most, weight-none}
+use Rattle.smooth.specs.Smooth.{smoothed}
 use Rattle.smooth.proofs.Laws.{place-is}
-use Rattle.smooth.proofs.Sizes.{sized, size-some}
-use Rattle.smooth.proofs.Steps.{entry-in, entry-abs, entry-most}
-use Rattle.smooth.proofs.Table.{weight-most, weight-none}
+
+-- the smooth predictors look at no corner: 0 stands for it
+pub no-corner : {B M : ℕ} {above left : List ℤ} {k : ℤ} {n : ℕ} → Given B M above left k n → Given B M above left (pos 0) n
+no-corner {M = M} g = record {
+  size = g .size;
+  above-long = g .above-long;
+  left-long = g .left-long;
+  out-long = g .out-long;
+  above-in = g .above-in;
+  left-in = g .left-in;
+  corner-in = pos-inside M 0 (omega arith);
+}
 
 -- a call that is not refused
-pub granted : {B D : ℕ} {named : Bool} {above left : List ℤ} {k : ℤ} {n : ℕ} → Accepted B D named above left k n
-    → (isSize B ≡ true) × Entries above (2 * B) × Entries left (2 * B) × (B * B ≤ n)
-granted {D = D} g =
-    let up = inside-more (most D) 4095 (depth-most D (g .depth)) in (
-      g .size,
-      record { long = g .above-long; samples = λ i h. up _ (g .above-in i h) },
-      record { long = g .left-long; samples = λ i h. up _ (g .left-in i h) },
-      g .out-long,
-    )
+pub granted : {B D : ℕ} {named : Bool} {above left : List ℤ} {k : ℤ} {n : ℕ} → Accepted B D named above left k n → Given B 4095 above left (pos 0) n
+granted {D = D} a = no-corner (given-more (depth-most D (a .depth)) (given a))
+
+-- the edges, as the rows have them
+module _ {B n : ℕ} {above left : List ℤ} {k : ℤ} (g : Given B 4095 above left k n) where
+  pub above-entries : Entries above (2 * B)
+  above-entries = record { long = g .above-long; samples = g .above-in }
+
+  pub left-entries : Entries left (2 * B)
+  left-entries = record { long = g .left-long; samples = g .left-in }
 
 module _ (B : ℕ) (size : isSize B ≡ true) where
   past-end : B < 2 * B

@@ -1,3 +1,2 @@
--- The smooth predictors, from document 01, and what their rows work out in natural numbers.
+-- To believe: Smooth, from document 01; its weights stand in `smooth_weights`.
 pub mod Smooth
-pub mod Parts

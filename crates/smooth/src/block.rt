@@ -1,28 +1,24 @@
-// The blocks: row after row of `out[..bs * bs]`.
-use crate::rows;
-use crate::value;
-use crate::weights;
+// The blocks: row after row of `out[..bs * bs]`. No corner is looked at: 0 stands for it.
 ghost use mathlib.Core.Path.{_≡_};
-ghost use mathlib.Core.Bool.{true};
 ghost use Prim.Native.Nat.{_-_, _*_, _≤_};
 ghost use lib.IntN.{pos, natAbs};
 ghost use lib.ListN.{length, getD};
-ghost use Rattle.numbers.specs.Size.{isSize};
 ghost use Rattle.lists.specs.Block.{block};
-ghost use Rattle.smooth.specs.Smooth.{entry, smoothVAt, smoothHAt, smoothAt};
-ghost use Rattle.smooth.specs.Parts.{weighed, Entries, Step, Weights};
+ghost use Rattle.calls.specs.Given.{Given};
+ghost use Rattle.smooth_steps.specs.Parts.{entry, weighed, Entries, Step, Weights};
+ghost use Rattle.smooth.specs.Smooth.{smoothVAt, smoothHAt, smoothAt};
 
 // A block of smooth_v samples.
 pub fn smooth_v_into(bs: usize, above: &[i32], left: &[i32], out: &mut [f32])
-    requires { ⌜ (isSize bs ≡ true) × Entries (now above) (2 * bs) × Entries (now left) (2 * bs) × (bs * bs ≤ length (now out)) ⌝ }
+    requires { ⌜ Given bs 4095 (now above) (now left) (pos 0) (length (now out)) ⌝ }
     ensures { λ _. ⌜ now (out .exit) ≡ block bs bs (smoothVAt bs (now (above .entry)) (now (left .entry)) (pos 0)) (now (out .entry)) ⌝ }
 {
-    let weights = weights::weights_of(weights::scale_of(bs));
-    rows::smooth_v_rows(
+    let weights = smooth_weights::weights_of(smooth_weights::scale_of(bs));
+    smooth_rows::smooth_v_rows(
         bs,
-        weights::log2_of(bs),
+        smooth_weights::log2_of(bs),
         above,
-        value::natural(left[bs]),
+        smooth_steps::natural(left[bs]),
         &weights,
         out,
     );
@@ -43,21 +39,21 @@ fn lined_h_rows(
     ensures { λ _. ⌜ now (out .exit) ≡ block bs bs (λ r c. pos (weighed bs e (natAbs (entry (now (left .entry)) r)) (bs - 1 - c) (getD (now (weights .entry)) c 0))) (now (out .entry)) ⌝ }
 {
     let mut line = [0u32; 64];
-    rows::smooth_h_rows(bs, k, left, e, weights, reach, &mut line, out);
+    smooth_rows::smooth_h_rows(bs, k, left, e, weights, reach, &mut line, out);
 }
 
 // A block of smooth_h samples.
 pub fn smooth_h_into(bs: usize, above: &[i32], left: &[i32], out: &mut [f32])
-    requires { ⌜ (isSize bs ≡ true) × Entries (now above) (2 * bs) × Entries (now left) (2 * bs) × (bs * bs ≤ length (now out)) ⌝ }
+    requires { ⌜ Given bs 4095 (now above) (now left) (pos 0) (length (now out)) ⌝ }
     ensures { λ _. ⌜ now (out .exit) ≡ block bs bs (smoothHAt bs (now (above .entry)) (now (left .entry)) (pos 0)) (now (out .entry)) ⌝ }
 {
-    let s = weights::scale_of(bs);
-    let weights = weights::weights_of(s);
-    let reach = weights::reach_of(s);
-    let k = weights::log2_of(bs);
-    let e = value::natural(above[bs]);
+    let s = smooth_weights::scale_of(bs);
+    let weights = smooth_weights::weights_of(s);
+    let reach = smooth_weights::reach_of(s);
+    let k = smooth_weights::log2_of(bs);
+    let e = smooth_steps::natural(above[bs]);
     if bs == 4 {
-        rows::quad_h_rows(bs, k, left, e, &weights, out);
+        smooth_rows::quad_h_rows(bs, k, left, e, &weights, out);
     } else {
         lined_h_rows(bs, k, left, e, &weights, reach, out);
     }
@@ -65,18 +61,18 @@ pub fn smooth_h_into(bs: usize, above: &[i32], left: &[i32], out: &mut [f32])
 
 // A block of smooth samples.
 pub fn smooth_into(bs: usize, above: &[i32], left: &[i32], out: &mut [f32])
-    requires { ⌜ (isSize bs ≡ true) × Entries (now above) (2 * bs) × Entries (now left) (2 * bs) × (bs * bs ≤ length (now out)) ⌝ }
+    requires { ⌜ Given bs 4095 (now above) (now left) (pos 0) (length (now out)) ⌝ }
     ensures { λ _. ⌜ now (out .exit) ≡ block bs bs (smoothAt bs (now (above .entry)) (now (left .entry)) (pos 0)) (now (out .entry)) ⌝ }
 {
-    let s = weights::scale_of(bs);
-    let weights = weights::weights_of(s);
-    let reach = weights::reach_of(s);
+    let s = smooth_weights::scale_of(bs);
+    let weights = smooth_weights::weights_of(s);
+    let reach = smooth_weights::reach_of(s);
     let mut line = [0u32; 64];
-    let e = value::natural(left[bs]);
-    let f = value::natural(above[bs]);
-    rows::smooth_rows(
+    let e = smooth_steps::natural(left[bs]);
+    let f = smooth_steps::natural(above[bs]);
+    smooth_rows::smooth_rows(
         bs,
-        weights::log2_of(bs),
+        smooth_weights::log2_of(bs),
         above,
         e,
         left,

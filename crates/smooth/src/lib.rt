@@ -1,12 +1,5 @@
 // smooth, smooth_v and smooth_h (document 01, The predictors). The public calls take any input, and test the refusals 1, 2, 9, 8 in that order.
-pub mod across;
 pub mod block;
-pub mod down;
-pub mod quad;
-pub mod rows;
-pub mod sm_weights;
-pub mod value;
-pub mod weights;
 
 use numbers::answer::Answer;
 ghost use Rattle.calls.specs.Direct.{Predicted};

@@ -7,14 +7,14 @@ use lib.ListN.{getD}
 use Rattle.lists.specs.Block.{block}
 use Rattle.lists.proofs.Block.{block-same}
 use Rattle.calls.proofs.Accepted.{size-most}
-use Rattle.smooth.specs.Smooth.{entry, smoothHAt}
-use Rattle.smooth.specs.Parts.{weighed, Entries, Step}
-use Rattle.smooth.proofs.Ready.{first-half, end-there, end-in, end-step, scale-low, weights-are, all-weights, place}
+use Rattle.smooth_steps.specs.Parts.{entry, weighed, Entries, Step}
+use Rattle.smooth.specs.Smooth.{smoothHAt}
+use Rattle.smooth.proofs.Ready.{above-entries, left-entries, first-half, end-there, end-in, end-step, scale-low, weights-are, all-weights, place}
 use Rattle.smooth.proofs.block.smooth_h_into.Statement.{statement}
 use Rattle.smooth.proofs.block.smooth_h_into.Tie as tie
 
 low : (c : tie.After-scale-of) → c .scale-of .result < 3
-low c = scale-low (c .before .before .args .bs) (c .before .before .pre .0) (c .scale-of .ensures)
+low c = scale-low (c .before .before .args .bs) (c .before .before .pre .size) (c .scale-of .ensures)
 
 -- what both ways hand to their rows
 module _ (n : tie.After-natural) where
@@ -28,17 +28,17 @@ module _ (n : tie.After-natural) where
   B = s .args .bs
 
   step : Step (n .natural .result) 0 B (n .before .before .log2-of .result)
-  step = end-step B (s .pre .0) (s .pre .1) (n .natural .ensures) (n .before .before .log2-of .ensures)
+  step = end-step B (s .pre .size) (above-entries (s .pre)) (n .natural .ensures) (n .before .before .log2-of .ensures)
 
   half : Entries (s .args .left .now) B
-  half = first-half B (s .pre .0) (s .pre .2)
+  half = first-half B (s .pre .size) (left-entries (s .pre))
 
   -- and what the rows then hold
   same : block B B (λ r c. pos (weighed B (n .natural .result) (natAbs (entry (s .args .left .now) r)) (B - 1 - c) (getD (w .weights-of .result) c 0))) (s .args .out .now)
       ≡ block B B (smoothHAt B (s .args .above .now) (s .args .left .now) (pos 0)) (s .args .out .now)
   same =
       block-same B B _ _ (s .args .out .now)
-      (λ r i hr hi. place B (s .pre .0) (w .before .scale-of .ensures) (w .weights-of .ensures) (s .pre .2) (s .pre .1) (n .natural .ensures) r i hr hi)
+      (λ r i hr hi. place B (s .pre .size) (w .before .scale-of .ensures) (w .weights-of .ensures) (left-entries (s .pre)) (above-entries (s .pre)) (n .natural .ensures) r i hr hi)
 
 scale-of-requires : tie.Need-scale-of-requires
 scale-of-requires c κs = search needs
@@ -58,12 +58,12 @@ mul-natural c = search needs
 shared-slice-copy-out-natural : tie.Need-shared-slice-copy-out-natural
 shared-slice-copy-out-natural c =
     let s = c .before .before .before .before .before in
-    end-there (s .args .bs) (s .pre .0) (s .pre .1)
+    end-there (s .args .bs) (s .pre .size) (above-entries (s .pre))
 
 natural-requires : tie.Need-natural-requires
 natural-requires c κs =
     let s = c .before .before .before .before .before .before in
-    end-in (s .args .bs) (s .pre .0) (s .pre .1)
+    end-in (s .args .bs) (s .pre .size) (above-entries (s .pre))
 
 slice-aggregate-quad-h-rows : tie.Need-slice-aggregate-quad-h-rows
 slice-aggregate-quad-h-rows c = search needs
@@ -72,7 +72,7 @@ quad-h-rows-requires : tie.Need-quad-h-rows-requires
 quad-h-rows-requires c κs =
     let t = c .before .before in
     let n = t .before in
-    ((t .if1 .taken, half n, step n, s n .pre .3), all-weights (B n) (s n .pre .0) (w n .before .scale-of .ensures) (w n .weights-of .ensures))
+    ((t .if1 .taken, half n, step n, s n .pre .out-long), all-weights (B n) (s n .pre .size) (w n .before .scale-of .ensures) (w n .weights-of .ensures))
 
 slice-aggregate-lined-h-rows : tie.Need-slice-aggregate-lined-h-rows
 slice-aggregate-lined-h-rows c = search needs
@@ -80,8 +80,8 @@ slice-aggregate-lined-h-rows c = search needs
 lined-h-rows-requires : tie.Need-lined-h-rows-requires
 lined-h-rows-requires c κs =
     let n = c .before .before .before in (
-      (half n, step n, size-most (B n) (s n .pre .0), s n .pre .3),
-      weights-are (B n) (s n .pre .0) (w n .before .scale-of .ensures) (w n .weights-of .ensures) (n .before .before .before .reach-of .ensures),
+      (half n, step n, size-most (B n) (s n .pre .size), s n .pre .out-long),
+      weights-are (B n) (s n .pre .size) (w n .before .scale-of .ensures) (w n .weights-of .ensures) (n .before .before .before .reach-of .ensures),
     )
 
 same-length : tie.Need-same-length

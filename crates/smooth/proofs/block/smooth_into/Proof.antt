@@ -6,7 +6,7 @@ use lib.IntN.{pos, _+ℤ_}
 use Rattle.lists.proofs.Block.{block-same}
 use Rattle.calls.proofs.Accepted.{size-most}
 use Rattle.smooth.specs.Smooth.{shr}
-use Rattle.smooth.proofs.Ready.{first-half, end-there, end-in, end-step, scale-low, weights-are, place}
+use Rattle.smooth.proofs.Ready.{above-entries, left-entries, first-half, end-there, end-in, end-step, scale-low, weights-are, place}
 use Rattle.smooth.proofs.block.smooth_into.Statement.{statement}
 use Rattle.smooth.proofs.block.smooth_into.Tie as tie
 
@@ -14,7 +14,7 @@ scale-of-requires : tie.Need-scale-of-requires
 scale-of-requires c κs = search needs
 
 low : (c : tie.After-scale-of) → c .scale-of .result < 3
-low c = scale-low (c .before .before .args .bs) (c .before .before .pre .0) (c .scale-of .ensures)
+low c = scale-low (c .before .before .args .bs) (c .before .before .pre .size) (c .scale-of .ensures)
 
 weights-of-requires : tie.Need-weights-of-requires
 weights-of-requires c κs = low c
@@ -28,12 +28,12 @@ mul-natural c = search needs
 shared-slice-copy-out-natural : tie.Need-shared-slice-copy-out-natural
 shared-slice-copy-out-natural c =
     let s = c .before .before .before .before in
-    end-there (s .args .bs) (s .pre .0) (s .pre .2)
+    end-there (s .args .bs) (s .pre .size) (left-entries (s .pre))
 
 natural-requires : tie.Need-natural-requires
 natural-requires c κs =
     let s = c .before .before .before .before .before in
-    end-in (s .args .bs) (s .pre .0) (s .pre .2)
+    end-in (s .args .bs) (s .pre .size) (left-entries (s .pre))
 
 mul-natural-2 : tie.Need-mul-natural-2
 mul-natural-2 c = search needs
@@ -41,12 +41,12 @@ mul-natural-2 c = search needs
 shared-slice-copy-out-natural-2 : tie.Need-shared-slice-copy-out-natural-2
 shared-slice-copy-out-natural-2 c =
     let s = c .before .before .before .before .before .before in
-    end-there (s .args .bs) (s .pre .0) (s .pre .1)
+    end-there (s .args .bs) (s .pre .size) (above-entries (s .pre))
 
 natural-requires-2 : tie.Need-natural-requires-2
 natural-requires-2 c κs =
     let s = c .before .before .before .before .before .before .before in
-    end-in (s .args .bs) (s .pre .0) (s .pre .1)
+    end-in (s .args .bs) (s .pre .size) (above-entries (s .pre))
 
 log2-of-requires : tie.Need-log2-of-requires
 log2-of-requires c κs = search needs
@@ -74,14 +74,14 @@ smooth-rows-requires c κs =
     let n = l .before in
     let s = s n in
     let B = s .args .bs in
-    let z = s .pre .0 in (
+    let z = s .pre .size in (
       (
-        first-half B z (s .pre .1),
-        end-step B z (s .pre .2) (down n .natural .ensures) (l .log2-of .ensures),
-        first-half B z (s .pre .2),
-        end-step B z (s .pre .1) (n .natural2 .ensures) (l .log2-of .ensures),
+        first-half B z (above-entries (s .pre)),
+        end-step B z (left-entries (s .pre)) (down n .natural .ensures) (l .log2-of .ensures),
+        first-half B z (left-entries (s .pre)),
+        end-step B z (above-entries (s .pre)) (n .natural2 .ensures) (l .log2-of .ensures),
         size-most B z,
-        s .pre .3,
+        s .pre .out-long,
       ),
       weights-are B z (w n .before .scale-of .ensures) (w n .weights-of .ensures) (down n .before .before .reach-of .ensures),
     )
@@ -100,8 +100,8 @@ returns c =
     m .smooth-rows .ensures
     ∙ block-same B B _ _ (s .args .out .now)
     (λ r i hr hi.
-    let v = place B (s .pre .0) es ew (s .pre .1) (s .pre .2) (down n .natural .ensures) i r hi hr in
-    let h = place B (s .pre .0) es ew (s .pre .2) (s .pre .1) (n .natural2 .ensures) r i hr hi in
+    let v = place B (s .pre .size) es ew (above-entries (s .pre)) (left-entries (s .pre)) (down n .natural .ensures) i r hi hr in
+    let h = place B (s .pre .size) es ew (left-entries (s .pre)) (above-entries (s .pre)) (n .natural2 .ensures) r i hr hi in
     λ j. shr (v j +ℤ h j +ℤ pos 1) 1)
 
 pub smooth-into-spec : {M : Type 1} → statement M

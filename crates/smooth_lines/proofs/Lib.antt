@@ -1,0 +1,2 @@
+-- Laws of the running numerator.
+pub mod Running

@@ -1,0 +1,135 @@
+-- `mean_row` meets its contract. The invariant: the first c samples are written. Assumes nothing.
+use Prim.Native.Nat.{ℕ, _≤_, _-_}
+use native.Mathlib.Omega.{arith}
+use mathlib.Core.Path.{_≡_, refl, sym, _∙_}
+use mathlib.Core.List.{List}
+use lib.ListN.{length, getD, length-set}
+use lib.IntN.{ℤ, pos, natAbs}
+use lib.Ieee.{Float, nan}
+use Rattle.lists.specs.Fill.{filled}
+use Rattle.lists.specs.Block.{sample}
+use Rattle.lists.proofs.Fill.{filled-none, filled-more, filled-all}
+use Rattle.smooth_steps.specs.Parts.{entry, weighed, mean}
+use Rattle.smooth_steps.proofs.Steps.{rest-most, both-most, entry-in, entry-abs, entry-most}
+use Rattle.smooth_lines.proofs.down.mean_row.Statement.{statement}
+use Rattle.smooth_lines.proofs.down.mean_row.Tie as tie
+
+-- the row's samples
+abbrev row-of : List ℤ → ℕ → ℕ → ℕ → ℕ → List ℕ → ℕ → Float
+row-of above e w m v line i = sample (pos (mean (weighed m e (natAbs (entry above i)) w v) (getD line i 0)))
+
+abbrev Inv-loop : tie.InvT-loop
+Inv-loop above e w m k v line row₀ rest c₀ row c = (c ≤ length row₀) × (length row ≡ length row₀) × (row ≡ filled c (row-of above e w m v line) row₀)
+
+abbrev μ-loop : tie.MeasureT-loop
+μ-loop above e w m k v line row₀ rest c₀ row c = length row₀ - c
+
+sub-rest : tie.Need-sub-rest Inv-loop μ-loop
+sub-rest c = omega arith
+
+mul-rest : tie.Need-mul-rest Inv-loop μ-loop
+mul-rest c = omega (arith, rest-most (c .before .before .pre .0 .1))
+
+add-rest : tie.Need-add-rest Inv-loop μ-loop
+add-rest c = omega (arith, rest-most (c .before .before .pre .0 .1))
+
+loop-holds : tie.Need-loop-holds Inv-loop μ-loop
+loop-holds c = (omega arith, refl, sym (filled-none _ _))
+
+mul-smooth-to : tie.Need-mul-smooth-to Inv-loop μ-loop
+mul-smooth-to c = omega arith
+
+shared-slice-copy-out-smooth-to : tie.Need-shared-slice-copy-out-smooth-to Inv-loop μ-loop
+shared-slice-copy-out-smooth-to c = omega arith
+
+-- one turn
+module _ (c : tie.In-loop Inv-loop μ-loop) where
+  abbrev s : tie.Start Inv-loop μ-loop
+  s = c .before .before .before .before
+
+  abbrev i : ℕ
+  i = c .before .loop .c
+
+  abbrev t : ℕ
+  t = natAbs (entry (s .args .above .now) i)
+
+smooth-to-requires : tie.Need-smooth-to-requires Inv-loop μ-loop
+smooth-to-requires c κs =
+    let p = s (c .before) .pre in
+    (entry-in (p .0 .0) (i (c .before)) (omega arith), p .0 .1, refl, p .0 .2)
+
+module _ (c : tie.After-smooth-to Inv-loop μ-loop) where
+  abbrev l : tie.In-loop Inv-loop μ-loop
+  l = c .before .before
+
+  number : c .smooth-to .result ≡ weighed (s l .args .m) (s l .args .e) (t l) (s l .args .w) (s l .args .v)
+  number = c .smooth-to .ensures ∙ (λ j. weighed (s l .args .m) (s l .args .e) (entry-abs (s l .pre .0 .0) (i l) (omega arith) j) (s l .args .w) (s l .args .v))
+
+  number-most : c .smooth-to .result ≤ 4095
+  number-most = omega (arith, number, both-most (s l .pre .0 .1) (entry-most (s l .pre .0 .0) (i l) (omega arith)) (s l .args .v) (s l .pre .0 .2))
+
+mul-mean-of : tie.Need-mul-mean-of Inv-loop μ-loop
+mul-mean-of c = omega arith
+
+shared-slice-read-mean-of : tie.Need-shared-slice-read-mean-of Inv-loop μ-loop
+shared-slice-read-mean-of c = omega arith
+
+mean-of-requires : tie.Need-mean-of-requires Inv-loop μ-loop
+mean-of-requires c κs =
+    let k = l (c .before) in
+    (number-most (c .before), s k .pre .1 .1 (i k) (omega arith))
+
+to-sample-requires : tie.Need-to-sample-requires Inv-loop μ-loop
+to-sample-requires c κs =
+    let n = c .before .before in
+    omega (arith, c .mean-of .ensures, number-most n, s (l n) .pre .1 .1 (i (l n)) (omega arith))
+
+mul-row : tie.Need-mul-row Inv-loop μ-loop
+mul-row c = omega arith
+
+slice-write-row : tie.Need-slice-write-row Inv-loop μ-loop
+slice-write-row c = omega arith
+
+add-c : tie.Need-add-c Inv-loop μ-loop
+add-c c = omega arith
+
+loop-less : tie.Need-loop-less Inv-loop μ-loop
+loop-less c = omega arith
+
+loop-again : tie.Need-loop-again Inv-loop μ-loop
+loop-again c =
+    let n = c .before .before .before in
+    let k = l n .before .loop in
+    let v = c .to-sample .ensures ∙ (λ j. sample (pos (c .before .mean-of .ensures j))) ∙ (λ j. sample (pos (mean (number n j) (getD (s (l n) .args .line .now) (k .c) 0)))) in
+    (omega arith, simp length-set (k .inv .1), filled-more (k .c) _ _ _ _ nan (omega arith) (k .inv .2) v)
+
+same-length : tie.Need-same-length Inv-loop μ-loop
+same-length c = c .before .loop .inv .1
+
+returns : tie.Need-returns Inv-loop μ-loop
+returns c = c .before .loop .inv .2 ∙ filled-all (c .before .loop .c) _ _ (omega arith)
+
+pub mean-row-spec : {M : Type 1} → statement M
+mean-row-spec =
+    tie.close
+    (tie.spec
+    Inv-loop
+    μ-loop
+    sub-rest
+    mul-rest
+    add-rest
+    loop-holds
+    mul-smooth-to
+    shared-slice-copy-out-smooth-to
+    smooth-to-requires
+    mul-mean-of
+    shared-slice-read-mean-of
+    mean-of-requires
+    to-sample-requires
+    mul-row
+    slice-write-row
+    add-c
+    loop-less
+    loop-again
+    same-length
+    returns)

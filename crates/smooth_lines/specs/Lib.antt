@@ -1,0 +1,1 @@
+-- No definitions: the lines promise what `smooth_steps` defines.

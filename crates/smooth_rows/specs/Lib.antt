@@ -1,0 +1,1 @@
+-- No definitions: the rows promise what `smooth_steps` defines.

@@ -1,0 +1,3 @@
+-- To believe: Weights, from document 01. Plumbing: Reach, by which the rows leave out the products that change nothing.
+pub mod Weights
+pub mod Reach
