@@ -2,3 +2,4 @@
 pub mod Inside
 pub mod Along
 pub mod Blocks
+pub mod Once

@@ -23,12 +23,14 @@ zone1 lum M n dx above r c = along lum M n above (64 * (c + 1) + (r + 1) * dx)
 abbrev pub zone3 : Bool → ℤ → ℕ → ℕ → (ℕ → ℤ) → ℕ → ℕ → ℤ
 zone3 lum M n dy left r c = zone1 lum M n dy left c r
 
--- zone 2 goes back along the edge above, and where that leads past the corner's place, back along the left edge
+-- from entry c back along an edge, by a step for each row down to r
+abbrev pub backAlong : Bool → ℤ → ℕ → ℕ → (ℕ → ℤ) → ℕ → ℕ → ℤ
+backAlong lum M n dx e r c = between lum M (padded 1 n e) (64 * (c + 1) - (r + 1) * dx)
+
+-- zone 2 goes back along the edge above, and where that leads past the corner's place, back along the left edge, with rows for columns
 unfoldable pub zone2 : Bool → ℤ → ℕ → ℕ → ℕ → ℕ → (ℕ → ℤ) → (ℕ → ℤ) → ℕ → ℕ → ℤ
 zone2 lum M w h dx dy above left r c =
-    cond (leb ((r + 1) * dx) (64 * (c + 1)))
-    (between lum M (padded 1 w above) (64 * (c + 1) - (r + 1) * dx))
-    (between lum M (padded 1 h left) (64 * (r + 1) - (c + 1) * dy))
+    cond (leb ((r + 1) * dx) (64 * (c + 1))) (backAlong lum M w dx above r c) (backAlong lum M h dy left c r)
 
 -- ---- with their steps and their filtered edges
 

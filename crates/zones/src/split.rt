@@ -3,7 +3,7 @@
 use crate::spread;
 ghost use mathlib.Core.Path.{_≡_};
 ghost use mathlib.Core.Bool.{true, cond};
-ghost use Prim.Native.Nat.{_+_, _*_, _-_, _/_, _≤_, _<_, min};
+ghost use Prim.Native.Nat.{_+_, _*_, _-_, _≤_, _<_};
 ghost use lib.Dec.{leb};
 ghost use lib.Ieee.{nan};
 ghost use lib.IntN.{pos};
@@ -13,11 +13,12 @@ ghost use Rattle.lists.specs.Fill.{tab};
 ghost use Rattle.lists.specs.Block.{rows, sample};
 ghost use Rattle.interp.specs.Quads.{tableOf};
 ghost use Rattle.zones.specs.Listed.{listed, Holds};
+ghost use Rattle.zones.specs.Split.{splitOf};
 
 // How many columns of a row are from the left edge: those that t 64ths back lead past the corner.
 fn split_of(w: usize, t: usize) -> usize
     requires { ⌜ 0 < t ⌝ }
-    ensures { λ r. ⌜ r ≡ min w ((t - 1) / 64) ⌝ }
+    ensures { λ r. ⌜ r ≡ splitOf w t ⌝ }
 {
     let k = (t - 1) / 64;
     if w < k { w } else { k }

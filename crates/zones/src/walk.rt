@@ -2,7 +2,7 @@
 // Directions)
 ghost use mathlib.Core.Path.{_≡_};
 ghost use mathlib.Core.Bool.{true};
-ghost use Prim.Native.Nat.{ℕ, _+_, _*_, _-_, _≤_, _<_};
+ghost use Prim.Native.Nat.{_+_, _*_, _-_, _≤_, _<_};
 ghost use lib.IntN.{pos};
 ghost use lib.ListN.{length, getD};
 ghost use Rattle.zint.specs.Range.{inside};
@@ -11,9 +11,10 @@ ghost use Rattle.lists.specs.Block.{rows, sample};
 ghost use Rattle.interp.specs.Quads.{tableOf};
 ghost use Rattle.interp.specs.Interp.{between};
 ghost use Rattle.zones.specs.Listed.{Holds};
+ghost use Rattle.zones.specs.Split.{splitOf};
 
-// The columns of the strip from row r0 on, from the left edge: how many were walked, and those are written. The walk is left where no row of the strip
-// is still in its left part.
+// The columns of the strip from row r0 on, from the left edge: those before the split of its last row, which is the strip's last to be reached. The walk
+// is left where no row of the strip is still in its left part; the columns that it passed are written.
 pub fn left_columns(
     w: usize,
     r0: usize,
@@ -27,7 +28,7 @@ pub fn left_columns(
 ) -> usize
     requires { ⌜ (w ≤ 64) × (r0 ≤ 60) × (0 < dx) × (dx ≤ 4096) × (0 < dy) × (dx * dy ≤ 4096) × (w * 4 ≤ length (now strip)) ⌝ }
     requires { ⌜ (inside (pos 4095) m ≡ true) × (now filters ≡ tableOf lum) × Holds (r0 + 10) (now left) ⌝ }
-    ensures { λ k. ⌜ (k ≤ w) × ((c : ℕ) → c < w → 64 * (c + 1) < (r0 + 4) * dx → c < k) ⌝ }
+    ensures { λ k. ⌜ k ≡ splitOf w ((r0 + 4) * dx) ⌝ }
     ensures { λ k. ⌜ now (strip .exit) ≡ filled (k * 4) (rows 4 (λ c j. sample (between lum m (λ i. getD (now (left .entry)) i (pos 0)) (64 * (r0 + 4) - (c + 1) * dy + 64 * j)))) (now (strip .entry)) ⌝ }
 {
     let end = r0 + 4;

@@ -12,7 +12,7 @@ use Rattle.lists.specs.Block.{sample}
 use Rattle.lists.proofs.Fill.{filled-none}
 use Rattle.lists.proofs.Block.{filled-row, part-length}
 use Rattle.interp.specs.Interp.{between}
-use Rattle.zones.proofs.walk.left_columns.Proof.Column.{at, Inv-loop, μ-loop, Inv-walk, μ-walk, written, k, s, enough, room, reach, next, place}
+use Rattle.zones.proofs.walk.left_columns.Proof.Column.{at, Inv-loop, μ-loop, Inv-walk, μ-walk, written, k, s, reached, enough, room, reach, next, place}
 use Rattle.zones.proofs.walk.left_columns.Proof.Passed as passed
 use Rattle.zones.proofs.walk.left_columns.Statement.{statement}
 use Rattle.zones.proofs.walk.left_columns.Tie as tie
@@ -26,7 +26,7 @@ mul-q : tie.Need-mul-q Inv-loop μ-loop Inv-walk μ-walk
 mul-q c = omega arith
 
 walk-holds : tie.Need-walk-holds Inv-loop μ-loop Inv-walk μ-walk
-walk-holds c = (omega arith, omega arith, omega arith, omega arith, refl, sym (filled-none _ _))
+walk-holds c = (omega arith, omega arith, omega arith, omega arith, refl, sym (filled-none _ _), omega arith)
 
 add-e : tie.Need-add-e Inv-loop μ-loop Inv-walk μ-walk
 add-e c = omega arith
@@ -74,13 +74,14 @@ walk-again c =
       filled-row 4 (k .walk .c) (k .walk .o) (at (s .args .lum) M (s .args .dy) (s .args .r0) (s .args .left .now)) _ _ _ _
           (k .walk .inv .1) (room l) (k .walk .inv .5) (c .before .before .between .ensures)
           (λ j h. ap (λ z. sample (between (s .args .lum) M (λ t. getD (s .args .left .now) t (pos 0)) (z + 64 * j))) (place l)),
+      reached l,
     )
 
 same-length : tie.Need-same-length Inv-loop μ-loop Inv-walk μ-walk
 same-length c = c .before .walk .inv .4
 
 returns : tie.Need-returns Inv-loop μ-loop Inv-walk μ-walk
-returns c = ((omega arith, λ i h l. omega arith), written (c .before))
+returns c = (omega arith, written (c .before))
 
 same-length-2 : tie.Need-same-length-2 Inv-loop μ-loop Inv-walk μ-walk
 same-length-2 c = c .before .before .before .before .walk .inv .4
@@ -91,7 +92,7 @@ returns-2 c =
     let s = k .before .before in
     let y : s .args .r0 + 4 ≡ c .before .before .loop .y + 1 = omega arith in
     let past : (s .args .r0 + 4) * s .args .dx ≤ 64 * (k .walk .c + 1) = omega (arith, ap (λ (x : ℕ). x * s .args .dx) y) in
-    ((omega arith, λ i h l. omega (arith, past)), written k)
+    (omega (arith, past), written k)
 
 pub left-columns-spec : {M : Type 1} → statement M
 left-columns-spec =

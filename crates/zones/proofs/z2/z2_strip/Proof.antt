@@ -20,6 +20,7 @@ use Rattle.lists.proofs.Fill.{tab-same}
 use Rattle.lists.proofs.Block.{rows-at, rows-same}
 use Rattle.interp.specs.Interp.{between}
 use Rattle.zones.specs.Listed.{listed, either}
+use Rattle.zones.specs.Split.{splitOf}
 use Rattle.zones.proofs.Inside.{left-inside}
 use Rattle.zones.proofs.z2.z2_strip.Statement.{statement}
 use Rattle.zones.proofs.z2.z2_strip.Tie as tie
@@ -41,19 +42,19 @@ module _ (v : tie.After-left-columns) where
   up j c = sample (listed (s .args .lum) M (s .args .top .now) (64 * (c + 1) - (s .args .r0 + j + 1) * s .args .dx))
 
   -- where the edge above does not reach
-  aside : (k : ℕ) (before after : List Float) → ((c : ℕ) → c < s .args .w → 64 * (c + 1) < (s .args .r0 + 4) * s .args .dx → c < k)
+  aside : (k : ℕ) (before after : List Float) → k ≡ splitOf (s .args .w) ((s .args .r0 + 4) * s .args .dx)
       → after ≡ filled (k * 4) (rows 4 column) before → (j c : ℕ) → j < 4 → c < s .args .w → 64 * (c + 1) < (s .args .r0 + j + 1) * s .args .dx
       → getD after (c * 4 + j) nan ≡ sample (listed (s .args .lum) M (s .args .left .now) (64 * (s .args .r0 + j + 1) - (c + 1) * s .args .dy))
   aside k before after walked e j c p q h =
       let row : s .args .r0 + j + 1 ≤ s .args .r0 + 4 = omega arith in
-      let c-in : c < k = walked c q (omega (arith, mul-le-mul-right (s .args .dx) row)) in
+      let c-in : c < k = omega (arith, mul-le-mul-right (s .args .dx) row) in
       let inside = left-inside (s .args .r0 + j) c (s .args .dx) (s .args .dy) (s .pre .0 .4) (s .pre .0 .5) h in
       let place : 64 * (s .args .r0 + 4) - (c + 1) * s .args .dy + 64 * j ≡ 64 * (s .args .r0 + j + 1) - (c + 1) * s .args .dy + 192 = omega arith in
       ap (λ l. getD l (c * 4 + j) nan) e
       ∙ rows-at 4 k column before c j nan c-in p
       ∙ ap (λ x. sample (between (s .args .lum) M left x)) place
 
-  stands : (k : ℕ) (before after : List Float) → ((c : ℕ) → c < s .args .w → 64 * (c + 1) < (s .args .r0 + 4) * s .args .dx → c < k)
+  stands : (k : ℕ) (before after : List Float) → k ≡ splitOf (s .args .w) ((s .args .r0 + 4) * s .args .dx)
       → after ≡ filled (k * 4) (rows 4 column) before → (j c : ℕ) → j < 4 → c < s .args .w
       → cond (leb ((s .args .r0 + j + 1) * s .args .dx) (64 * (c + 1))) (up j c) (getD after (c * 4 + j) nan)
       ≡ sample (either (s .args .lum) M (s .args .dx) (s .args .dy) (s .args .top .now) (s .args .left .now) (s .args .r0 + j) c)
@@ -96,7 +97,7 @@ returns c =
     let n = s .pre .0 .7 in
     u .split-rows .ensures
     ∙ tab-same (length (s .args .out .now)) _ _
-    (λ i h. rows-same (s .args .w) 4 _ _ (stands v _ _ _ (v .left-columns .ensures .0 .1) (v .left-columns .ensures .1)) i (omega (arith, n)))
+    (λ i h. rows-same (s .args .w) 4 _ _ (stands v _ _ _ (v .left-columns .ensures .0) (v .left-columns .ensures .1)) i (omega (arith, n)))
     ∙ (λ j. tab (length (s .args .out .now)) (rows (s .args .w) (λ r c. sample (either (s .args .lum) (toZ-ofZ (s .fits .m) j) (s .args .dx) (s .args .dy) (s .args .top .now) (s .args .left .now) (s .args .r0 + r) c))))
 
 pub z2-strip-spec : {M : Type 1} → statement M

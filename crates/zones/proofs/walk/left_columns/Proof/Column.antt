@@ -1,6 +1,7 @@
--- The loops of `left_columns`: the walk's invariant, that the first c columns are written, o is 4 c, q is c dy before the strip's end and some row of the
--- strip is not passed yet; and a column that some row takes from the left. Assumes nothing.
+-- The loops of `left_columns`: the walk's invariant, that the first c columns are written, o is 4 c, q is c dy before the strip's end, some row of the
+-- strip is not passed yet, and the strip's last row takes the c columns from the left; and a column that some row takes from the left. Assumes nothing.
 use Prim.Native.Nat.{ℕ, _≤_, _<_, _+_, _-_, _*_, _/_}
+use native.Mathlib.Nat.{mul-le-mul-right}
 use native.Mathlib.Omega.{arith}
 use mathlib.Core.Path.{_≡_, _∙_}
 use mathlib.Core.Bool.{Bool}
@@ -28,7 +29,7 @@ abbrev pub μ-loop : tie.MeasureT-loop
 
 abbrev pub Inv-walk : tie.InvT-walk
 Inv-walk w r0 lum filters dx dy m left strip₀ end q₀ o₀ y₀ c₀ strip q o y c =
-    (c ≤ w) × (o ≡ c * 4) × (q + c * dy ≡ 64 * (r0 + 4)) × (y < end) × (length strip ≡ length strip₀) × (strip ≡ filled o (rows 4 (at lum (toZ w32 m) dy r0 left)) strip₀)
+    (c ≤ w) × (o ≡ c * 4) × (q + c * dy ≡ 64 * (r0 + 4)) × (y < end) × (length strip ≡ length strip₀) × (strip ≡ filled o (rows 4 (at lum (toZ w32 m) dy r0 left)) strip₀) × (64 * c < (r0 + 4) * dx)
 
 abbrev pub μ-walk : tie.MeasureT-walk
 μ-walk w r0 lum filters dx dy m left strip₀ end q₀ o₀ y₀ c₀ strip q o y c = w - c
@@ -50,6 +51,12 @@ module _ (l : tie.After-loop Inv-loop μ-loop Inv-walk μ-walk) where
 
   abbrev pub s : tie.Start Inv-loop μ-loop Inv-walk μ-walk
   s = start k
+
+  -- the strip's last row takes it from the left too
+  pub reached : 64 * (k .walk .c + 1) < (s .args .r0 + 4) * s .args .dx
+  reached =
+      let y : l .before .loop .y + 1 ≤ s .args .r0 + 4 = omega arith in
+      omega (arith, mul-le-mul-right (s .args .dx) y)
 
   -- it lies inside the left edge
   inside-left : (k .walk .c + 1) * s .args .dy < 64 * (l .before .loop .y + 1)
