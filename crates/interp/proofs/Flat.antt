@@ -1,16 +1,16 @@
 -- Where all entries that a sample reads are the same, the sample is that entry: the taps sum to 128, or to 32. Assumes nothing.
-use mathlib.Core.Bool.{Bool, true, false, true≢false}
-use mathlib.Core.Path.{_≡_, sym, _∙_, ap}
+use mathlib.Core.Bool.{Bool, true, false}
+use mathlib.Core.Path.{_≡_, _∙_, ap}
 use Prim.Native.Nat.{ℕ, _≤_, _<_, _+_, _-_, _*_, _/_}
 use native.Mathlib.Omega.{arith}
-use lib.IntN.{ℤ, pos, negsuc, _+ℤ_, _*ℤ_}
+use lib.IntN.{ℤ, pos, _+ℤ_, _*ℤ_}
 use lib.Arith.{digits-div}
 use lib.Signed.{shrZ}
-use borrow.Author.Tests.{leb-true, le-ltb}
 use Rattle.zint.specs.Range.{inside}
 use Rattle.zint.proofs.Parts.{up, dn, same, add, mul}
 use Rattle.interp.specs.F4.{f4}
 use Rattle.interp.specs.Interp.{clip, taps4, taps2, phase, between}
+use Rattle.interp.proofs.Laws.{clip-same}
 use Rattle.interp.proofs.Taps.{f4-sum}
 
 -- a multiple of m and less than half of it, shifted
@@ -49,20 +49,14 @@ flat2 f v h = ap (λ (n : ℕ). pos ((n + 16) / 32)) all ∙ ap pos (whole v 16 
         split : 32 - f + f ≡ 32
         split = omega arith
 
--- ---- a sample
-clip-in : (M : ℤ) (v : ℕ) → inside M (pos v) ≡ true → clip M (pos v) ≡ pos v
-unfolding clip inside
-clip-in (pos M) v h = let l = leb-true v M h in rw (le-ltb v 0 (omega arith), le-ltb M v (omega arith))
-clip-in (negsuc M) v h = absurd (true≢false (sym h))
-
--- all entries from the base on are the same
-pub between-flat : (lum : Bool) (M : ℤ) (p : ℕ → ℤ) (q v : ℕ) → inside M (pos v) ≡ true → ((k : ℕ) → q / 64 ≤ k → p k ≡ pos v) → between lum M p q ≡ pos v
+-- ---- a sample: all entries from the base on are the same
+pub between-flat : (lum : Bool) (M : ℕ) (p : ℕ → ℤ) (q v : ℕ) → inside (pos M) (pos v) ≡ true → ((k : ℕ) → q / 64 ≤ k → p k ≡ pos v) → between lum (pos M) p q ≡ pos v
 unfolding between
 between-flat true M p q v h at =
-    (λ j. clip M (taps4 (f4 (phase q) 0) (f4 (phase q) 1) (f4 (phase q) 2) (f4 (phase q) 3) (at (q / 64) (omega arith) j) (at (q / 64 + 1) (omega arith) j) (at (q / 64 + 2) (omega arith) j) (at (q / 64 + 3) (omega arith) j)))
-    ∙ ap (clip M) (flat4 _ _ _ _ v (f4-sum (phase q) (omega arith)))
-    ∙ clip-in M v h
+    (λ j. clip (pos M) (taps4 (f4 (phase q) 0) (f4 (phase q) 1) (f4 (phase q) 2) (f4 (phase q) 3) (at (q / 64) (omega arith) j) (at (q / 64 + 1) (omega arith) j) (at (q / 64 + 2) (omega arith) j) (at (q / 64 + 3) (omega arith) j)))
+    ∙ ap (clip (pos M)) (flat4 _ _ _ _ v (f4-sum (phase q) (omega arith)))
+    ∙ clip-same M (pos v) h
 between-flat false M p q v h at =
-    (λ j. clip M (taps2 (pos (32 - phase q)) (pos (phase q)) (at (q / 64 + 1) (omega arith) j) (at (q / 64 + 1 + 1) (omega arith) j)))
-    ∙ ap (clip M) (flat2 (phase q) v (omega arith))
-    ∙ clip-in M v h
+    (λ j. clip (pos M) (taps2 (pos (32 - phase q)) (pos (phase q)) (at (q / 64 + 1) (omega arith) j) (at (q / 64 + 1 + 1) (omega arith) j)))
+    ∙ ap (clip (pos M)) (flat2 (phase q) v (omega arith))
+    ∙ clip-same M (pos v) h

@@ -8,7 +8,7 @@ use lib.ListN.{length, getD, take, drop}
 use native.Mathlib.Omega.{arith}
 use lib.IntN.{ℤ, pos, negsuc, natAbs}
 use lib.Signed.{ltZ}
-use borrow.Author.Tests.{ltb-false, le-ltb}
+use borrow.Author.Tests.{leb-true, ltb-false, le-ltb}
 use Rattle.zint.specs.Range.{inside, Edge}
 use Rattle.zint.proofs.Range.{inside-abs, pos-inside}
 use Rattle.lists.proofs.Fill.{rest-at}
@@ -36,6 +36,12 @@ clip-inside M x = go x (ltZ x (pos 0)) (ltZ (pos M) x) refl refl
     go x false true p q = pos-inside M M (omega arith)
     go (pos x) false false p q = pos-inside M x (ltb-false M x q)
     go (negsuc x) false false p q = absurd (true≢false p)
+
+-- what is in 0..M is not changed
+pub clip-same : (M : ℕ) (z : ℤ) → inside (pos M) z ≡ true → clip (pos M) z ≡ z
+unfolding clip inside
+clip-same M (pos v) h = let l = leb-true v M h in rw (le-ltb v 0 (omega arith), le-ltb M v (omega arith))
+clip-same M (negsuc v) h = absurd (true≢false (sym h))
 
 inside-neg : (m n : ℕ) → inside (pos m) (negsuc n) ≡ true → false ≡ true
 unfolding inside

@@ -3,3 +3,4 @@ pub mod Laws
 pub mod Taps
 pub mod Flat
 pub mod Four
+pub mod Inside

@@ -1,7 +1,8 @@
 // Interpolation between the entries of an edge (document 01, Directions).
 pub mod between;
-pub mod chroma;
-pub mod f2;
-pub mod f4;
-pub mod luma;
-pub mod value;
+mod chroma;
+mod f2;
+mod f4;
+mod luma;
+pub mod table;
+mod value;

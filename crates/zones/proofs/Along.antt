@@ -29,7 +29,7 @@ along-is lum v n e q h = go (ltb n (q / 64)) refl
     at l k g = ap e (omega arith) ∙ last
 
     go : (t : Bool) → ltb n (q / 64) ≡ t → cond t (e n) (between lum (pos v) (padded 1 n e) q) ≡ between lum (pos v) (padded 1 n e) q
-    go true t = last ∙ sym (between-flat lum (pos v) (padded 1 n e) q (natAbs (e n)) (ap (inside (pos v)) (sym last) ∙ h) (at (ltb-true n (q / 64) t)))
+    go true t = last ∙ sym (between-flat lum v (padded 1 n e) q (natAbs (e n)) (ap (inside (pos v)) (sym last) ∙ h) (at (ltb-true n (q / 64) t)))
     go false t = refl
 
 -- a list that holds the edge

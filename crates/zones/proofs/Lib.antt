@@ -3,3 +3,4 @@ pub mod Inside
 pub mod Along
 pub mod Blocks
 pub mod Once
+pub mod Range

@@ -1,6 +1,4 @@
 // Zone 1 by rows: row r starts (r + 1) dx 64ths further along the list than the block does.
-use interp::f2::F2;
-use interp::f4::F4;
 ghost use mathlib.Core.Path.{_≡_};
 ghost use mathlib.Core.Bool.{true};
 ghost use Prim.Native.Nat.{_+_, _*_, _/_, _≤_};
@@ -43,9 +41,6 @@ pub fn z1_rows(w: usize, h: usize, lum: bool, dx: usize, m: i32, list: &[i32], o
     requires { ⌜ Holds (h * dx / 64 + w + 7) (now list) ⌝ }
     ensures { λ _. ⌜ now (out .exit) ≡ block w h (ahead lum m dx (now (list .entry))) (now (out .entry)) ⌝ }
 {
-    let mut filters = F2;
-    if lum {
-        filters = F4;
-    }
+    let filters = interp::table::table_of(lum);
     z1_by(w, h, lum, &filters, dx, m, list, out);
 }

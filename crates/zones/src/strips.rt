@@ -1,7 +1,5 @@
 // Zone 3 by strips of four rows: down a column the base moves by one entry and the phase stays, so that a column of a strip is a row of four samples.
 use crate::spread;
-use interp::f2::F2;
-use interp::f4::F4;
 ghost use mathlib.Core.Path.{_≡_};
 ghost use mathlib.Core.Bool.{true};
 ghost use Prim.Native.Nat.{_+_, _*_, _/_, _≤_};
@@ -84,9 +82,6 @@ pub fn z3_strips(
     requires { ⌜ Holds (w * dy / 64 + 4 * n + 7) (now list) ⌝ }
     ensures { λ _. ⌜ now (out .exit) ≡ block w (4 * n) (λ r c. ahead lum m dy (now (list .entry)) c r) (now (out .entry)) ⌝ }
 {
-    let mut filters = F2;
-    if lum {
-        filters = F4;
-    }
+    let filters = interp::table::table_of(lum);
     z3_by(w, n, lum, &filters, dy, m, list, strip, out);
 }

@@ -1,8 +1,6 @@
 // Zone 2 by strips of four rows.
 use crate::split;
 use crate::walk;
-use interp::f2::F2;
-use interp::f4::F4;
 ghost use mathlib.Core.Path.{_≡_};
 ghost use mathlib.Core.Bool.{true};
 ghost use Prim.Native.Nat.{_+_, _*_, _≤_, _<_};
@@ -94,9 +92,6 @@ pub fn z2_strips(
     requires { ⌜ (inside (pos 4095) m ≡ true) × Holds (w + 6) (now top) × Holds (4 * n + 6) (now left) ⌝ }
     ensures { λ _. ⌜ now (out .exit) ≡ block w (4 * n) (either lum m dx dy (now (top .entry)) (now (left .entry))) (now (out .entry)) ⌝ }
 {
-    let mut filters = F2;
-    if lum {
-        filters = F4;
-    }
+    let filters = interp::table::table_of(lum);
     z2_by(w, n, lum, &filters, dx, dy, m, top, left, strip, out);
 }

@@ -1,27 +1,18 @@
 -- `z1_rows` meets its contract: the table is the plane's. Assumes nothing.
 use borrow.Author.Needs.{needs}
-use mathlib.Core.Logic.{⊎-elim}
-use mathlib.Core.Path.{_≡_, sym, _∙_, ap}
 use mir.Facts.{toZ-ofZ}
-use Rattle.lists.specs.Fill.{tab}
-use Rattle.interp.specs.Quads.{tableOf}
 use Rattle.zones.proofs.rows.z1_rows.Statement.{statement}
 use Rattle.zones.proofs.rows.z1_rows.Tie as tie
 
-module _ (j : tie.Joined1) where
-  abbrev s : tie.Start
-  s = j .before .before
-
-  table : j .if1 .filters ≡ tableOf (s .args .lum)
-  unfolding tab
-  table = ⊎-elim (λ t. t .1 ∙ ap tableOf (sym (t .0 .taken))) (λ e. e .1 ∙ ap tableOf (sym (e .0 .left))) (j .if1 .came)
+table-of-requires : tie.Need-table-of-requires
+table-of-requires c κs = search needs
 
 z1-by-requires : tie.Need-z1-by-requires
 z1-by-requires c κs =
-    let j = c .before .before in
-    let s = s j in
+    let k = c .before .before in
+    let s = k .before .before in
     let p = s .pre .0 in
-    simp (toZ-ofZ, s .fits .m) ((p .0, p .1, p .2, p .3, p .4, table j), s .pre .1)
+    simp (toZ-ofZ, s .fits .m) ((p .0, p .1, p .2, p .3, p .4, k .table-of .ensures), s .pre .1)
 
 same-length : tie.Need-same-length
 same-length c = search needs
@@ -29,8 +20,9 @@ same-length c = search needs
 returns : tie.Need-returns
 returns c =
     let u = c .before .before in
-    let s = s (u .before .before .before) in
+    let s = u .before .before .before .before .before in
     simp (toZ-ofZ, s .fits .m) at (u .z1-by .ensures)
 
 pub z1-rows-spec : {M : Type 1} → statement M
-z1-rows-spec = tie.close (tie.spec z1-by-requires same-length returns)
+z1-rows-spec =
+    tie.close (tie.spec table-of-requires z1-by-requires same-length returns)
