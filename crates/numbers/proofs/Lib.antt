@@ -2,6 +2,7 @@
 pub mod Look
 pub mod Agree
 pub mod Named
+pub mod Colours
 pub mod Angle
 pub mod Modes
 pub mod Place

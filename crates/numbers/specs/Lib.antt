@@ -4,6 +4,7 @@ pub mod Limits
 pub mod Size
 pub mod Depth
 pub mod Dir
+pub mod Colour
 pub mod Mode
 pub mod Flag
 pub mod Word
