@@ -1,21 +1,23 @@
 -- "The short product in `predict_block` equals it for all factors" (document 01, Colour parameters): with a second factor below the limit no digit is
 -- over, so the product is rounded as it is; and how many are over with a factor in 0..4095. Assumes nothing.
 use mathlib.Core.Path.{_≡_, refl, sym, ap, ap₂, _∙_, subst}
-use mathlib.Core.Bool.{true}
+use mathlib.Core.Bool.{Bool, true, false, cond}
 use mathlib.Core.Logic.{_⊎_, inl, inr, ⊎-elim}
 use Prim.Native.Nat.{ℕ, zero, suc, _+_, _-_, _*_, _/_, _^_, _≤_, _<_}
 use native.Mathlib.Omega.{arith}
 use native.Mathlib.Nat as N
+use lib.Dec.{ltb}
 use lib.Pow.{pow-add}
 use lib.IntN.{ℤ, pos, negsuc, negℤ, natAbs, _*ℤ_}
 use lib.Signed.{shrZ}
 use mir.Syntax.{w32}
 use mir.Val.{SFits}
-use borrow.Author.Tests.{le-leb, lt-leb}
+use borrow.Author.Tests.{le-leb, lt-leb, ltb-true}
 use Rattle.zint.specs.Range.{inside}
 use Rattle.zint.proofs.Range.{inside-abs, inside-pos}
 use Rattle.zint.proofs.Bound.{abs-times}
 use Rattle.fixed.specs.Product.{ilog2, digits, over, narrow, signed, near, rounded, mulFixed, limitOf}
+use Rattle.fixed.specs.Short.{term}
 use Rattle.zint.proofs.Naturals.{either, pow-le}
 use Rattle.fixed.proofs.Shift.{pow-below, ilog2-is, ilog2-zero}
 use Rattle.fixed.proofs.Rounding.{rounded-near, near-zero}
@@ -88,3 +90,13 @@ short a n f h = go (either (digits a) 28)
               ∙ rounded-near (a *ℤ pos n) 16 (omega arith) (omega arith)
               ∙ ap (λ (m : ℕ). signed (a *ℤ pos n) (near m 16)) (abs-times a (pos n)) ∙ signed-mul a n 16 (omega arith));
         }
+
+-- "The short product in `predict_block` equals it for all factors"
+pub term-is : (a b : ℤ) → SFits w32 a → term a b ≡ mulFixed a b 16
+unfolding term
+term-is a (negsuc n) f = refl
+term-is a (pos n) f = go (ltb n (limitOf a)) refl
+  where
+    go : (t : Bool) → ltb n (limitOf a) ≡ t → cond t (signed a (near (natAbs a * n) 16)) (mulFixed a (pos n) 16) ≡ mulFixed a (pos n) 16
+    go true e = short a n f (ltb-true n (limitOf a) e) .is
+    go false e = refl

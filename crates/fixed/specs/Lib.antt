@@ -1,5 +1,6 @@
 -- The product, the reciprocal, and elimination, over whole numbers.
 pub mod Product
+pub mod Short
 pub mod Wide
 pub mod Division
 pub mod Rows
