@@ -7,7 +7,7 @@ use crate::spec::DEPTHS;
 const DRAWN: f64 = 2_000_000.0;
 const MOST: i32 = 1 << 22;
 
-/// The nine sums as `fixed::elimination` has them: the upper half of a matrix, row by row, and the right side.
+/// The nine sums as the crate `elimination` has them: the upper half of a matrix, row by row, and the right side.
 #[repr(C)]
 #[derive(Clone, Copy, Debug)]
 struct Sums {

@@ -15,7 +15,7 @@ use Rattle.ladder.specs.Ladder.{Rule, ladder}
 use Rattle.ladder.proofs.Ladder.{all-kept}
 use Rattle.terms.specs.Reference.{isReference}
 use Rattle.terms.proofs.Granted.{reference-all}
-use Rattle.fixed.specs.declared.elimination.Params.{Params}
+use Rattle.elimination.specs.declared.Params.{Params}
 use Rattle.sums.specs.Sum.{Laid}
 use Rattle.sums.specs.declared.window.Window.{Window}
 use Rattle.derive.specs.Rules.{areReferences, windowRules, sampleRules, deriveRules, deriveAnswer}

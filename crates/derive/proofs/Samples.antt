@@ -9,7 +9,7 @@ use Rattle.numbers.specs.Depth.{most}
 use Rattle.numbers.specs.declared.answer.Answer.{Answer}
 use Rattle.numbers.specs.declared.answer.Answer.the-variants.{Done, BadColourSample, SumTooLarge}
 use Rattle.ladder.specs.Ladder.{ladder}
-use Rattle.fixed.specs.declared.elimination.Params.{Params}
+use Rattle.elimination.specs.declared.Params.{Params}
 use Rattle.sums.specs.Sum.{sumsOf, countOf, isReadable}
 use Rattle.sums.specs.declared.window.Window.{Window}
 use Rattle.sums.proofs.Count.{none-readable, none-summed}

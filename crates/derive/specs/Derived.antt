@@ -9,7 +9,7 @@ use Rattle.numbers.specs.Answer.{isDone}
 use Rattle.numbers.specs.declared.answer.Answer.{Answer}
 use Rattle.ladder.specs.Ladder.{ladder}
 use Rattle.ladder.specs.Promise.{lent, Promise}
-use Rattle.fixed.specs.declared.elimination.Params.{Params}
+use Rattle.elimination.specs.declared.Params.{Params}
 use Rattle.sums.specs.Sum.{sumsOf, countOf}
 use Rattle.sums.specs.declared.window.Window.{Window}
 use Rattle.derive.specs.Shift.{paramsOf}

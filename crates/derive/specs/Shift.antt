@@ -4,9 +4,9 @@ use Prim.Native.Nat.{ℕ, _+_, _-_, _*_, _/_, _^_}
 use lib.Dec.{ltb, eqb}
 use lib.IntN.{pos}
 use Rattle.fixed.specs.Product.{ilog2}
-use Rattle.fixed.specs.Elimination.{regular, solved}
-use Rattle.fixed.specs.declared.elimination.Sums.{Sums}
-use Rattle.fixed.specs.declared.elimination.Params.{Params}
+use Rattle.elimination.specs.Elimination.{regular, solved}
+use Rattle.elimination.specs.declared.Sums.{Sums}
+use Rattle.elimination.specs.declared.Params.{Params}
 use Rattle.sums.specs.declared.nine.Nine.{Nine}
 
 -- ceil(log2 n)

@@ -4,7 +4,7 @@ pub mod rules;
 pub mod shift;
 pub mod solve;
 
-use fixed::elimination::Params;
+use elimination::Params;
 use numbers::answer::Answer;
 use numbers::depth::Depth;
 use numbers::depth::FoundDepth;

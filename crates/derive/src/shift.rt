@@ -1,11 +1,11 @@
 // "Sums are shifted by 22 - 2D - ceil(log2 count), so each ends at or below 2^22." (document 01, Colour parameters)
-use fixed::elimination::Sums;
+use elimination::Sums;
 use fixed::product;
 use sums::nine::Nine;
 ghost use mathlib.Core.Path.{_≡_};
 ghost use Prim.Native.Nat.{_^_, _≤_};
 ghost use lib.IntN.{pos};
-ghost use Rattle.fixed.specs.Elimination.{SumsIn};
+ghost use Rattle.elimination.specs.Elimination.{SumsIn};
 ghost use Rattle.sums.specs.Sum.{NineMost};
 ghost use Rattle.derive.specs.Shift.{ceilLog2, shifted, shiftedSums};
 

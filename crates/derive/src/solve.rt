@@ -1,7 +1,6 @@
 // Refusal 14, and the parameters from sums that it lets pass (document 01, Colour parameters).
 use crate::shift;
-use fixed::elimination;
-use fixed::elimination::Params;
+use elimination::Params;
 use numbers::depth::Depth;
 use sums::nine::Nine;
 ghost use mathlib.Core.Path.{_≡_};

@@ -1,7 +1,3 @@
--- The product, the reciprocal, and elimination, over whole numbers.
+-- The product over whole numbers, and the short product of prediction.
 pub mod Product
 pub mod Short
-pub mod Wide
-pub mod Division
-pub mod Rows
-pub mod Elimination

@@ -1,8 +1,2 @@
-// Fixed-point arithmetic of the colour parameters (document 01, Colour parameters): the product, the reciprocal, and the elimination
-// of three unknowns, `mul_fixed32_adapt`, `division_scale_shift` and `gauss_elimination` of mhccp.rs. Nothing wraps in the product, in elimination or in
-// back substitution.
-pub mod division;
-pub mod elimination;
+// The fixed-point product of the colour parameters (document 01, Colour parameters), `mul_fixed32_adapt` of mhccp.rs. Nothing wraps in it.
 pub mod product;
-pub mod rows;
-pub mod wide;

@@ -15,7 +15,7 @@ use Rattle.filter.specs.Filter.{edge, filtered, cornerOf}
 use Rattle.zones.specs.Zones.{along as alongEdge, zone2}
 use Rattle.directional.specs.Directional.{isDown, isAcross}
 use Rattle.fixed.specs.Product.{ilog2, digits, over, narrow, rounded, mulFixed}
-use Rattle.fixed.specs.Division.{curve, moved, fraction, scaleOf}
+use Rattle.reciprocal.specs.Division.{curve, moved, fraction, scaleOf}
 use Rattle.paper.specs.Paper.{given, paper}
 
 pub as-on-paper : given ≡ paper

@@ -13,7 +13,7 @@ use Rattle.paeth.specs.Paeth.{paeth}
 use Rattle.smooth.specs.Smooth.{smoothVAt}
 use Rattle.directional.specs.Directional.{directionalAt}
 use Rattle.fixed.specs.Product.{ilog2, mulFixed}
-use Rattle.fixed.specs.Division.{scaleOf}
+use Rattle.reciprocal.specs.Division.{scaleOf}
 
 -- smooth_v at B 4, where all entries above are t and all at the left e: row r of the first column
 abbrev smoothV4 : ℕ → ℕ → ℕ → ℤ

@@ -1,11 +1,10 @@
--- What is ready for a block fits, the terms of its samples are small, and what a call gave is read back from its bits. Assumes nothing.
+-- What is ready for a block fits, the terms of its samples are small. Assumes nothing.
 use mathlib.Core.Path.{_≡_, sym, _∙_, subst}
 use mathlib.Core.Bool.{true}
 use Prim.Native.Nat.{ℕ, _≤_, _<_, _^_}
 use native.Mathlib.Nat.{lt-of-le-of-lt}
 use native.Mathlib.Omega.{arith}
 use lib.IntN.{ℤ, pos, natAbs}
-use lib.Signed.{mag}
 use mir.Syntax.{w32}
 use mir.Val.{SFits}
 use Rattle.numbers.specs.Depth.{most}
@@ -14,16 +13,12 @@ use Rattle.zint.proofs.Bound.{back, back-abs, sfits-abs}
 use Rattle.zint.proofs.Range.{inside-abs, inside-pos, inside-more}
 use Rattle.fixed.specs.Product.{mulFixed, limitOf}
 use Rattle.fixed.proofs.Bounds.{mul-pos}
-use Rattle.fixed.proofs.Calls.{thru}
-use Rattle.fixed.proofs.Served.{half-small}
+use Rattle.fixed.proofs.Thru.{thru}
+use Rattle.product_table.proofs.Served.{half-small}
 use Rattle.terms.specs.Terms.{eighth, squared}
 use Rattle.terms.proofs.Most.{most-all, depth-some, eighth-in, squared-in}
 use Rattle.predict.specs.Mixed.{Ready, Short, Luma}
 use Rattle.predict.specs.declared.mix.Mix.{Mix}
-
--- what a call gave, read back from its bits
-pub got : {r d e : ℤ} → mag r < 2 ^ 31 → r ≡ d → d ≡ e → thru r ≡ e
-got {r} ok p q = back w32 {z = r} (record { sfits = ok }) ∙ p ∙ q
 
 module _ (k : Mix) (r : Ready k) where
   within : (z : ℤ) (n : ℕ) → n ≤ 2 ^ 29 → (d : ℤ) → z ≡ d → natAbs d ≤ n → thru z ≡ z

@@ -10,9 +10,9 @@ use mir.Val.{SFits}
 use Rattle.numbers.specs.Depth.{isDepth, most}
 use Rattle.zint.proofs.Order.{ltZ-true, ltZ-false, lt-ltZ, le-ltZ}
 use Rattle.fixed.specs.Product.{mulFixed, limitOf}
-use Rattle.fixed.specs.Wide.{halfOf}
+use Rattle.product_table.specs.Wide.{halfOf}
 use Rattle.fixed.proofs.Short.{short}
-use Rattle.fixed.proofs.Cleared.{shift-round}
+use Rattle.product_table.proofs.Kept.{shift-round}
 use Rattle.terms.proofs.Most.{most-all}
 use Rattle.predict.specs.Predicted.{clip, clipped}
 

@@ -6,7 +6,7 @@ use lib.IntN.{ℤ, pos, natAbs}
 use Rattle.numbers.specs.Depth.{isDepth, most}
 use Rattle.zint.specs.Range.{inside}
 use Rattle.fixed.specs.Product.{limitOf}
-use Rattle.fixed.specs.Wide.{halfOf}
+use Rattle.product_table.specs.Wide.{halfOf}
 use Rattle.terms.specs.Terms.{middle}
 use Rattle.predict.specs.Predicted.{total, thirdOf, clipped}
 use Rattle.predict.specs.declared.mix.Mix.{Mix}

@@ -3,7 +3,7 @@ use mathlib.Core.Path.{_≡_}
 use mathlib.Core.Bool.{false}
 use mathlib.Core.List.{List}
 use lib.IntN.{ℤ}
-use Rattle.fixed.specs.Wide.{Wide}
+use Rattle.product_table.specs.Wide.{Wide}
 use Rattle.predict.specs.declared.mix.Mix.{Mix}
 
 -- both parameters' tables

@@ -2,7 +2,6 @@
 use crate::mix::Mix;
 use crate::row;
 use crate::spec::Block;
-use fixed::wide;
 ghost use mathlib.Core.Path.{_≡_};
 ghost use mathlib.Core.Bool.{true};
 ghost use Prim.Native.Nat.{_+_, _*_, _≤_};
@@ -111,8 +110,8 @@ fn wide_lines(luma: &[i32], b: Block, k: Mix, t0: &mut [i64], t1: &mut [i64], ou
     requires { ⌜ Ready k × (k .bits ≡ b .d) × (length (now t0) ≡ 24) × (length (now t1) ≡ 24) ⌝ }
     ensures { λ _. ⌜ now (out .exit) ≡ filled (b .height * b .width) (rows (b .width) (found k (now (luma .entry)) b)) (now (out .entry)) ⌝ }
 {
-    wide::fill(k.p0, t0);
-    wide::fill(k.p1, t1);
+    product_table::fill(k.p0, t0);
+    product_table::fill(k.p1, t1);
     lines(luma, b, k, t0, t1, out);
 }
 

@@ -1,6 +1,5 @@
 // What is worked out once for a block: its depth's numbers, the parameters, and which product serves (document 01, Colour parameters).
 use fixed::product;
-use fixed::wide;
 use numbers::depth::FoundDepth;
 ghost use mathlib.Core.Path.{_≡_};
 ghost use mathlib.Core.Bool.{true, _&&_};
@@ -59,8 +58,8 @@ impl Mix {
             p0: p0,
             p1: p1,
             third: third,
-            half0: wide::half(p0),
-            half1: wide::half(p1),
+            half0: product_table::half(p0),
+            half1: product_table::half(p1),
             short: is_below(m as u32, limit0, limit1),
         }
     }

@@ -1,11 +1,10 @@
 // One sample: its three terms, and the clip to 0..M (document 01, Colour parameters).
 use crate::mix::Mix;
-use fixed::wide;
 ghost use mathlib.Core.Path.{_≡_};
 ghost use Prim.Native.Nat.{_≤_, _<_, _^_};
 ghost use lib.IntN.{pos, natAbs, _+ℤ_};
 ghost use Rattle.fixed.specs.Product.{mulFixed, limitOf};
-ghost use Rattle.fixed.specs.Wide.{halfOf};
+ghost use Rattle.product_table.specs.Wide.{halfOf};
 ghost use Rattle.predict.specs.Predicted.{clip, clipped};
 ghost use Rattle.predict.specs.Mixed.{Ready, Short, Luma, mixed};
 ghost use Rattle.predict.specs.Wides.{Both};
@@ -56,7 +55,7 @@ pub fn wide_sample(n: i32, c: i32, k: Mix, t0: &[i64], t1: &[i64]) -> i32
 {
     let e = terms::eighth(n);
     let s = terms::squared(terms::eighth(c), k.mid, k.bits);
-    let x = wide::mul_wide(k.p0, t0, e);
-    let y = wide::mul_wide(k.p1, t1, s);
+    let x = product_table::mul_wide(k.p0, t0, e);
+    let y = product_table::mul_wide(k.p1, t1, s);
     sum(x, y, k)
 }

@@ -8,7 +8,7 @@ use native.Mathlib.Nat.{mul-le-mul, le-trans}
 use lib.IntN.{pos}
 use mir.Syntax.{w32}
 use Rattle.zint.proofs.Bound.{back}
-use Rattle.fixed.specs.Elimination.{regular, solved}
+use Rattle.elimination.specs.Elimination.{regular, solved}
 use Rattle.sums.specs.Sum.{NineMost}
 use Rattle.sums.proofs.Steps.{wider}
 use Rattle.sums.proofs.Ranges.{most-small, bits-most}

@@ -9,7 +9,7 @@ use mir.Syntax.{w32}
 use Rattle.lists.specs.Fill.{filled}
 use Rattle.lists.proofs.Fill.{filled-none, filled-more, filled-all}
 use Rattle.zint.proofs.Bound.{back}
-use Rattle.fixed.proofs.Calls.{thru}
+use Rattle.fixed.proofs.Thru.{thru}
 use Rattle.predict.specs.Mixed.{Luma, mixed}
 use Rattle.predict.specs.Lines.{at}
 use Rattle.predict.proofs.Held.{luma-back}

@@ -9,7 +9,7 @@ use mir.Facts.{toZ-ofZ}
 use Rattle.zint.proofs.Bound.{Bound, b-abs, b-add, b-shr, b-fits, abs-times}
 use Rattle.fixed.specs.Product.{mulFixed}
 use Rattle.fixed.proofs.Short.{short}
-use Rattle.fixed.proofs.Served.{half-small}
+use Rattle.product_table.proofs.Served.{half-small}
 use Rattle.predict.proofs.Laws.{short-is}
 use Rattle.predict.proofs.value.short.Statement.{statement}
 use Rattle.predict.proofs.value.short.Tie as tie

@@ -8,11 +8,11 @@ use mir.Val.{SFits}
 use mir.Facts.{toZ-ofZ}
 use Rattle.zint.proofs.Bound.{back}
 use Rattle.fixed.specs.Product.{mulFixed}
-use Rattle.fixed.proofs.Calls.{thru}
+use Rattle.fixed.proofs.Thru.{thru, got}
 use Rattle.terms.specs.Terms.{eighth, squared}
 use Rattle.terms.proofs.Most.{most-all}
 use Rattle.predict.specs.Predicted.{total, clipped}
-use Rattle.predict.proofs.Held.{got, mid=, eighth-twelve, squared-twelve, first-small, second-small}
+use Rattle.predict.proofs.Held.{mid=, eighth-twelve, squared-twelve, first-small, second-small}
 use Rattle.predict.proofs.value.wide_sample.Statement.{statement}
 use Rattle.predict.proofs.value.wide_sample.Tie as tie
 

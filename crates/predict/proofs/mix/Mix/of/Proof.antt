@@ -17,7 +17,7 @@ use Rattle.zint.proofs.Bound.{back, back-abs, sfits-abs}
 use Rattle.zint.proofs.Range.{and-both}
 use Rattle.fixed.specs.Product.{mulFixed}
 use Rattle.fixed.proofs.Bounds.{mul-pos}
-use Rattle.fixed.proofs.Calls.{thru}
+use Rattle.fixed.proofs.Thru.{thru}
 use Rattle.terms.specs.Terms.{middle}
 use Rattle.terms.proofs.Most.{most-all}
 use Rattle.predict.specs.Predicted.{thirdOf}

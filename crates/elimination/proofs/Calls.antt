@@ -1,0 +1,33 @@
+-- What a call of `reduced` or of `unit` gave, read back from its bits: the steps of elimination (document 01, Colour parameters). Assumes nothing.
+use mathlib.Core.Path.{_≡_, _∙_}
+use Prim.Native.Nat.{ℕ, _+_, _≤_, _<_, _^_}
+use lib.IntN.{ℤ, natAbs}
+use lib.Signed.{mag}
+use mir.Syntax.{w32}
+use mir.Val.{SFits}
+use Rattle.zint.proofs.Bound.{back}
+use Rattle.fixed.proofs.Thru.{thru}
+use Rattle.elimination.specs.Rows.{unit, reduced}
+
+pub record Got (m : ℕ) (d r : ℤ) : Type 0 where
+  pub raw : r ≡ d
+  pub is : thru r ≡ d
+  pub size : natAbs r ≤ m
+  pub most : natAbs (thru r) ≤ m
+
+pub got-reduced :
+    (v f u r : ℤ) → SFits w32 v → SFits w32 f → SFits w32 u → mag r < 2 ^ 31
+    → (r ≡ reduced (thru v) (thru f) (thru u)) × (natAbs r ≤ natAbs (thru v) + 2 ^ 29) → Got (natAbs v + 2 ^ 29) (reduced v f u) r
+got-reduced v f u r hv hf hu ok e =
+    let b = back w32 {z = r} (record { sfits = ok }) in
+    let d : r ≡ reduced v f u = simp (back w32 hv, back w32 hf, back w32 hu) at (e .0) in
+    let m : natAbs r ≤ natAbs v + 2 ^ 29 = simp (back w32 hv) at (e .1) in
+    record { raw = d; is = b ∙ d; size = m; most = simp b m }
+
+pub got-unit :
+    (p v r : ℤ) → SFits w32 p → SFits w32 v → mag r < 2 ^ 31 → (r ≡ unit (thru p) (thru v)) × (natAbs r ≤ 2 ^ 29)
+    → Got (2 ^ 29) (unit p v) r
+got-unit p v r hp hv ok e =
+    let b = back w32 {z = r} (record { sfits = ok }) in
+    let d : r ≡ unit p v = simp (back w32 hp, back w32 hv) at (e .0) in
+    record { raw = d; is = b ∙ d; size = e .1; most = simp b (e .1) }

@@ -1,0 +1,3 @@
+-- Laws of elimination.
+pub mod Calls
+pub mod Read

@@ -1,0 +1,4 @@
+-- Laws of the product from a table.
+pub mod Kept
+pub mod Served
+pub mod Entries

@@ -1,0 +1,2 @@
+-- A first factor's table, and the product from it.
+pub mod Wide

@@ -1,0 +1,2 @@
+-- Laws of the reciprocal.
+pub mod Range

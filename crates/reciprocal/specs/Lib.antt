@@ -1,0 +1,2 @@
+-- The reciprocal over whole numbers.
+pub mod Division
