@@ -1,7 +1,5 @@
 // Paeth (document 01, The predictors). The public call takes any input, and tests the refusals 1, 2, 9, 8 in that order.
 pub mod block;
-pub mod row;
-pub mod value;
 
 use numbers::answer::Answer;
 ghost use Rattle.calls.specs.Direct.{Predicted};

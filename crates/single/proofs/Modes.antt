@@ -3,7 +3,6 @@ use mathlib.Core.Path.{_≡_, refl, sym, _∙_, ap, subst}
 use mathlib.Core.Bool.{Bool, true, false, cond}
 use mathlib.Core.List.{List}
 use Prim.Native.Nat.{ℕ, _*_, _≤_}
-use native.Mathlib.Omega.{arith}
 use lib.Dec.{eqb}
 use lib.IntN.{ℤ, pos, natAbs}
 use lib.Ieee.{Float}
@@ -20,7 +19,6 @@ use Rattle.numbers.specs.declared.mode.Mode.the-variants.{Directional}
 use Rattle.numbers.specs.declared.word.Word.the-variants.{ModeWord, DirectionWord, DeltaWord, FlagWord}
 use Rattle.numbers.proofs.Angle.{delta-small}
 use Rattle.zint.specs.Range.{inside, Edge}
-use Rattle.zint.proofs.Range.{inside-abs, inside-more}
 use Rattle.lists.specs.Block.{block}
 use Rattle.calls.proofs.Accepted.{depth-most}
 use Rattle.calls.proofs.Given.{given-more}
@@ -68,17 +66,8 @@ module _ {job : Job} {above left : List ℤ} {k : ℤ} {n : ℕ} (g : Ready job 
   abbrev B : ℕ
   B = job .spec .b
 
-  edge-small : (es : List ℤ) (m : ℕ) → m ≤ 2 * B → Edge (most (job .spec .d)) (2 * B) es → Edge 4095 m es
-  edge-small es m h e i l = inside-more (most (job .spec .d)) 4095 (depth-most (job .spec .d) (g .depth)) _ (e i (omega arith))
-
-  pub paeth-asks : ((B ≤ length above) × (B ≤ length left) × (B * B ≤ n)) × (Edge 4095 B above × Edge 4095 B left × (natAbs k ≤ 4095))
-  paeth-asks = (
-    (omega (arith, g .above-long), omega (arith, g .left-long), g .out-long),
-    (edge-small above B (omega arith) (g .above-in), edge-small left B (omega arith) (g .left-in), omega (arith, inside-abs (most (job .spec .d)) k (g .corner-in), depth-most (job .spec .d) (g .depth))),
-  )
-
-  all-asks : Given B 4095 above left k n
-  all-asks = given-more (depth-most (job .spec .d) (g .depth)) (record {
+  pub paeth-asks : Given B 4095 above left k n
+  paeth-asks = given-more (depth-most (job .spec .d) (g .depth)) (record {
     size = g .size;
     above-long = g .above-long;
     left-long = g .left-long;
@@ -89,7 +78,7 @@ module _ {job : Job} {above left : List ℤ} {k : ℤ} {n : ℕ} (g : Ready job 
   })
 
   pub smooth-asks : Given B 4095 above left (pos 0) n
-  smooth-asks = no-corner all-asks
+  smooth-asks = no-corner paeth-asks
 
 -- a block by the job's predictor
 pub block-is : (job : Job) (mode : Mode) (above left : List ℤ) (k : ℤ) (out after : List Float) → job .mode ≡ mode

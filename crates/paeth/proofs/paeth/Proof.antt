@@ -1,18 +1,17 @@
 -- `paeth` meets its contract: a refusal returns before any store, and a call that is not refused meets what the block asks. Assumes nothing.
 use borrow.Author.Needs.{needs}
 use borrow.Author.Tests.{not-true, not-false}
-use native.Mathlib.Omega.{arith}
 use mathlib.Core.Path.{_≡_, sym, _∙_}
 use mathlib.Core.Bool.{true}
 use lib.ListN.{length}
 use mir.Facts.{toZ-ofZ}
 use Rattle.numbers.specs.Answer.{isDone}
-use Rattle.numbers.specs.Depth.{most}
 use Rattle.numbers.proofs.Named.{done-is}
-use Rattle.zint.proofs.Range.{inside-abs, inside-more}
 use Rattle.ladder.proofs.Promise.{refused, finished}
 use Rattle.calls.specs.Direct.{directAnswer}
-use Rattle.calls.proofs.Accepted.{Accepted, accepted, depth-most}
+use Rattle.calls.specs.Given.{Given}
+use Rattle.calls.proofs.Accepted.{accepted, depth-most}
+use Rattle.calls.proofs.Given.{given, given-more}
 use Rattle.paeth.proofs.paeth.Statement.{statement}
 use Rattle.paeth.proofs.paeth.Tie as tie
 
@@ -29,8 +28,8 @@ module _ (c : tie.Else1) where
   done : isDone (c .before .before .direct .result) ≡ true
   done = sym (c .before .is-done .ensures) ∙ not-false (c .before .is-done .result) (c .if1 .left)
 
-  granted : Accepted (s (c .before) .args .b) (s (c .before) .args .d) true (s (c .before) .args .above .now) (s (c .before) .args .left .now) (s (c .before) .args .corner) (length (s (c .before) .args .out .now))
-  granted = accepted _ _ _ _ _ _ _ (sym (is (c .before)) ∙ done-is _ done)
+  granted : Given (s (c .before) .args .b) 4095 (s (c .before) .args .above .now) (s (c .before) .args .left .now) (s (c .before) .args .corner) (length (s (c .before) .args .out .now))
+  granted = let a = accepted _ _ _ _ _ _ _ (sym (is (c .before)) ∙ done-is _ done) in given-more (depth-most _ (a .depth)) (given a)
 
 direct-requires : tie.Need-direct-requires
 direct-requires c κs = search needs
@@ -44,17 +43,8 @@ returns c =
 
 paeth-into-requires : tie.Need-paeth-into-requires
 paeth-into-requires c κs =
-    let g = granted (c .before) in
     let s = s (c .before .before) in
-    let up = inside-more (most (s .args .d)) 4095 (depth-most (s .args .d) (g .depth)) in
-    simp (toZ-ofZ, s .fits .corner) (
-      (omega (arith, g .above-long), omega (arith, g .left-long), g .out-long),
-      (
-        λ i h. up _ (g .above-in i (omega arith)),
-        λ i h. up _ (g .left-in i (omega arith)),
-        inside-abs 4095 (s .args .corner) (up _ (g .corner-in)),
-      ),
-    )
+    simp (toZ-ofZ, s .fits .corner) (granted (c .before))
 
 same-length : tie.Need-same-length
 same-length c = search needs

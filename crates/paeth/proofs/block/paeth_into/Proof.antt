@@ -16,7 +16,9 @@ use Rattle.zint.proofs.Bound.{back-abs}
 use Rattle.zint.proofs.Range.{inside-abs}
 use Rattle.lists.proofs.Fill.{filled-none}
 use Rattle.lists.proofs.Block.{filled-row, part-length}
-use Rattle.paeth.specs.Paeth.{paeth, paethAt}
+use Rattle.paeth_rows.specs.Chosen.{chosen}
+use Rattle.paeth.specs.Paeth.{paethAt}
+use Rattle.paeth.proofs.Laws.{paeth-is}
 use Rattle.paeth.proofs.block.paeth_into.Statement.{statement}
 use Rattle.paeth.proofs.block.paeth_into.Tie as tie
 
@@ -40,7 +42,7 @@ module _ (c : tie.In-loop Inv-loop μ-loop) where
   l = getD (c .before .before .before .args .left .now) (c .before .loop .r) (pos 0)
 
   l-small : natAbs l ≤ 4095
-  l-small = inside-abs 4095 l (c .before .before .before .pre .1 .1 (c .before .loop .r) (omega arith))
+  l-small = inside-abs 4095 l (c .before .before .before .pre .left-in (c .before .loop .r) (omega arith))
 
   l-back : toZ w32 (ofZ w32 l) ≡ l
   l-back = back-abs w32 l (omega (arith, l-small))
@@ -75,7 +77,7 @@ paeth-row-requires c κs =
     let s = k .before .before in
     let n = part-length (k .loop .o) (s .args .bs) (k .loop .out) (room (c .before .before)) in
     simp (toZ-ofZ, s .fits .corner, l-back (c .before .before), n)
-    (s .pre .0 .0, s .pre .1 .0, l-small (c .before .before), s .pre .1 .2)
+    (omega (arith, s .pre .above-long), λ i h. s .pre .above-in i (omega arith), l-small (c .before .before), inside-abs 4095 (s .args .corner) (s .pre .corner-in))
 
 add-r : tie.Need-add-r Inv-loop μ-loop
 add-r c = omega arith
@@ -94,7 +96,7 @@ loop-again c =
       c .before .out .given .1 ∙ k .loop .inv .2,
       filled-row (s .args .bs) (k .loop .r) (k .loop .o) (at (s .args .bs) (s .args .above .now) (s .args .left .now) K) _ _ _ _
           (k .loop .inv .1) (room i) (k .loop .inv .3) (c .before .before .paeth-row .ensures)
-          (λ j h. ap (λ z. sample (paeth z (getD (s .args .above .now) j (pos 0)) K)) (l-back i)),
+          (λ j h. ap (λ z. sample (chosen z (getD (s .args .above .now) j (pos 0)) K)) (l-back i) ∙ ap sample (sym (paeth-is (l i) (getD (s .args .above .now) j (pos 0)) K))),
     )
 
 same-length : tie.Need-same-length Inv-loop μ-loop

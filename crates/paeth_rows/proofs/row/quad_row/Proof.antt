@@ -12,9 +12,9 @@ use Rattle.zint.proofs.Bound.{back-abs}
 use Rattle.zint.proofs.Range.{inside-abs}
 use Rattle.lists.specs.Block.{sample}
 use Rattle.lists.proofs.Block.{four-stores}
-use Rattle.paeth.specs.Paeth.{paeth}
-use Rattle.paeth.proofs.row.quad_row.Statement.{statement}
-use Rattle.paeth.proofs.row.quad_row.Tie as tie
+use Rattle.paeth_rows.specs.Chosen.{chosen}
+use Rattle.paeth_rows.proofs.row.quad_row.Statement.{statement}
+use Rattle.paeth_rows.proofs.row.quad_row.Tie as tie
 
 -- an entry above, and its sample
 module _ (s : tie.Start) (i : ℕ) (h : i < 4) where
@@ -28,8 +28,8 @@ module _ (s : tie.Start) (i : ℕ) (h : i < 4) where
   top-back = back-abs w32 top (omega (arith, top-small))
 
   -- what the call gave is the sample that stands there
-  stands : sample (paeth (toZ w32 (ofZ w32 (s .args .l))) (toZ w32 (ofZ w32 top)) (toZ w32 (ofZ w32 (s .args .corner)))) ≡ sample (paeth (s .args .l) top (s .args .corner))
-  stands = λ j. sample (paeth (toZ-ofZ (s .fits .l) j) (top-back j) (toZ-ofZ (s .fits .corner) j))
+  stands : sample (chosen (toZ w32 (ofZ w32 (s .args .l))) (toZ w32 (ofZ w32 top)) (toZ w32 (ofZ w32 (s .args .corner)))) ≡ sample (chosen (s .args .l) top (s .args .corner))
+  stands = λ j. sample (chosen (toZ-ofZ (s .fits .l) j) (top-back j) (toZ-ofZ (s .fits .corner) j))
 
 shared-slice-copy-out-paeth-sample : tie.Need-shared-slice-copy-out-paeth-sample
 shared-slice-copy-out-paeth-sample c = search needs

@@ -7,11 +7,11 @@ ghost use lib.ListN.{length, getD};
 ghost use Rattle.zint.specs.Range.{Edge};
 ghost use Rattle.lists.specs.Fill.{tab};
 ghost use Rattle.lists.specs.Block.{sample};
-ghost use Rattle.paeth.specs.Paeth.{paeth};
+ghost use Rattle.paeth_rows.specs.Chosen.{chosen};
 
 fn quad_row(above: &[i32], l: i32, corner: i32, row: &mut [f32])
     requires { ⌜ (length (now row) ≡ 4) × (4 ≤ length (now above)) × Edge 4095 4 (now above) × (natAbs l ≤ 4095) × (natAbs corner ≤ 4095) ⌝ }
-    ensures { λ _. ⌜ now (row .exit) ≡ tab (length (now (row .entry))) (λ c. sample (paeth l (getD (now (above .entry)) c (pos 0)) corner)) ⌝ }
+    ensures { λ _. ⌜ now (row .exit) ≡ tab (length (now (row .entry))) (λ c. sample (chosen l (getD (now (above .entry)) c (pos 0)) corner)) ⌝ }
 {
     let x = value::paeth_sample(l, above[0], corner);
     let y = value::paeth_sample(l, above[1], corner);
@@ -25,7 +25,7 @@ fn quad_row(above: &[i32], l: i32, corner: i32, row: &mut [f32])
 
 fn long_row(above: &[i32], l: i32, corner: i32, row: &mut [f32])
     requires { ⌜ (length (now row) ≤ length (now above)) × Edge 4095 (length (now row)) (now above) × (natAbs l ≤ 4095) × (natAbs corner ≤ 4095) ⌝ }
-    ensures { λ _. ⌜ now (row .exit) ≡ tab (length (now (row .entry))) (λ c. sample (paeth l (getD (now (above .entry)) c (pos 0)) corner)) ⌝ }
+    ensures { λ _. ⌜ now (row .exit) ≡ tab (length (now (row .entry))) (λ c. sample (chosen l (getD (now (above .entry)) c (pos 0)) corner)) ⌝ }
 {
     let mut c = 0;
     while c < row.len() {
@@ -37,7 +37,7 @@ fn long_row(above: &[i32], l: i32, corner: i32, row: &mut [f32])
 // A row of any length.
 pub fn paeth_row(above: &[i32], l: i32, corner: i32, row: &mut [f32])
     requires { ⌜ (length (now row) ≤ length (now above)) × Edge 4095 (length (now row)) (now above) × (natAbs l ≤ 4095) × (natAbs corner ≤ 4095) ⌝ }
-    ensures { λ _. ⌜ now (row .exit) ≡ tab (length (now (row .entry))) (λ c. sample (paeth l (getD (now (above .entry)) c (pos 0)) corner)) ⌝ }
+    ensures { λ _. ⌜ now (row .exit) ≡ tab (length (now (row .entry))) (λ c. sample (chosen l (getD (now (above .entry)) c (pos 0)) corner)) ⌝ }
 {
     if row.len() == 4 {
         quad_row(above, l, corner, row);

@@ -8,11 +8,11 @@ use mir.Val.{SFits, toZ, ofZ}
 use lib.IntN.{_+ℤ_}
 use Rattle.zint.proofs.Bound.{sfits-abs}
 use Rattle.zint.proofs.Order.{le-neg}
-use Rattle.paeth.specs.Paeth.{paeth}
-use Rattle.paeth.proofs.Laws.{from-corner, paeth-small}
-use Rattle.paeth.proofs.value.paeth_single.Statement.{statement}
-use Rattle.paeth.proofs.value.paeth_single.Tie as tie
-use Rattle.paeth.proofs.value.paeth_single.Proof.Distances.{x-fits, y-fits, sum-small, sum-fits, near, other-is, nearest-is, to-left, to-top, to-corner}
+use Rattle.paeth_rows.specs.Chosen.{chosen}
+use Rattle.paeth_rows.proofs.Laws.{from-corner, chosen-small}
+use Rattle.paeth_rows.proofs.value.paeth_single.Statement.{statement}
+use Rattle.paeth_rows.proofs.value.paeth_single.Tie as tie
+use Rattle.paeth_rows.proofs.value.paeth_single.Proof.Distances.{x-fits, y-fits, sum-small, sum-fits, left-top, left-corner, top-corner, other-is, nearest-is, to-left, to-top, to-corner}
 mod Distances
 
 nearness-requires : tie.Need-nearness-requires
@@ -59,22 +59,22 @@ nearest e =
     ∙ simp (toZ-ofZ, c .fits .left, c .fits .corner, y-fits c, to-left (k .before .before), to-corner k, le-neg, other (e .before)) at (e .either2 .ensures)
 
 -- the sum that is returned
-chosen : (e : tie.After-either3) → let c = e .before .before .before .before .before .before in
-    c .args .corner +ℤ toZ w32 (ofZ w32 (e .either3 .result)) ≡ paeth (c .args .left) (c .args .top) (c .args .corner)
-unfolding paeth
-chosen e =
+sum-is : (e : tie.After-either3) → let c = e .before .before .before .before .before .before in
+    c .args .corner +ℤ toZ w32 (ofZ w32 (e .either3 .result)) ≡ chosen (c .args .left) (c .args .top) (c .args .corner)
+unfolding chosen
+sum-is e =
     let k = e .before .before .before in
     let c = k .before .before .before in
     ap (λ z. c .args .corner +ℤ z)
     (toZ-ofZ {z = e .either3 .result} (record { sfits = e .either3 .ok })
     ∙ simp (toZ-ofZ, to-left (k .before .before), to-top (k .before), le-neg, other (e .before .before), nearest (e .before)) at (e .either3 .ensures))
-    ∙ from-corner (near c (c .args .left) (c .args .top)) (near c (c .args .left) (c .args .corner)) (near c (c .args .top) (c .args .corner)) (c .args .left) (c .args .top) (c .args .corner)
+    ∙ from-corner (left-top c) (left-corner c) (top-corner c) (c .args .left) (c .args .top) (c .args .corner)
 
 fits : (e : tie.After-either3) → let c = e .before .before .before .before .before .before in
     SFits w32 (c .args .corner +ℤ toZ w32 (ofZ w32 (e .either3 .result)))
 fits e =
     let c = e .before .before .before .before .before .before in
-    subst (SFits w32) (sym (chosen e)) (sfits-abs w32 _ (omega (arith, paeth-small 4095 (c .args .left) (c .args .top) (c .args .corner) (c .pre .0) (c .pre .1) (c .pre .2))))
+    subst (SFits w32) (sym (sum-is e)) (sfits-abs w32 _ (omega (arith, chosen-small 4095 (c .args .left) (c .args .top) (c .args .corner) (c .pre .0) (c .pre .1) (c .pre .2))))
 
 add-result : tie.Need-add-result
 add-result e = let c = e .before .before .before .before .before .before in rw (toZ-ofZ (c .fits .corner)) (fits e)
@@ -82,7 +82,7 @@ add-result e = let c = e .before .before .before .before .before .before in rw (
 returns : tie.Need-returns
 returns e =
     let c = e .before .before .before .before .before .before in
-    rw (toZ-ofZ (c .fits .corner)) (toZ-ofZ (fits e) ∙ chosen e)
+    rw (toZ-ofZ (c .fits .corner)) (toZ-ofZ (fits e) ∙ sum-is e)
 
 pub paeth-single-spec : {M : Type 1} → statement M
 paeth-single-spec =

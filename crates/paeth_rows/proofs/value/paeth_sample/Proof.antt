@@ -7,20 +7,20 @@ use mir.Facts.{toZ-ofZ}
 use mir.Syntax.{w32}
 use Rattle.lists.specs.Block.{sample}
 use Rattle.zint.proofs.Bound.{back-abs, exact}
-use Rattle.paeth.specs.Paeth.{paeth}
-use Rattle.paeth.proofs.Laws.{paeth-small}
-use Rattle.paeth.proofs.value.paeth_sample.Statement.{statement}
-use Rattle.paeth.proofs.value.paeth_sample.Tie as tie
+use Rattle.paeth_rows.specs.Chosen.{chosen}
+use Rattle.paeth_rows.proofs.Laws.{chosen-small}
+use Rattle.paeth_rows.proofs.value.paeth_sample.Statement.{statement}
+use Rattle.paeth_rows.proofs.value.paeth_sample.Tie as tie
 
 paeth-single-requires : tie.Need-paeth-single-requires
 paeth-single-requires c κs = simp (toZ-ofZ, c .fits .left, c .fits .top, c .fits .corner) (c .pre)
 
 module _ (c : tie.After-paeth-single) where
-  is : c .paeth-single .result ≡ paeth (c .before .args .left) (c .before .args .top) (c .before .args .corner)
+  is : c .paeth-single .result ≡ chosen (c .before .args .left) (c .before .args .top) (c .before .args .corner)
   is = simp (toZ-ofZ, c .before .fits .left, c .before .fits .top, c .before .fits .corner) at (c .paeth-single .ensures)
 
   small : natAbs (c .paeth-single .result) ≤ 4095
-  small = rw is (paeth-small 4095 _ _ _ (c .before .pre .0) (c .before .pre .1) (c .before .pre .2))
+  small = rw is (chosen-small 4095 _ _ _ (c .before .pre .0) (c .before .pre .1) (c .before .pre .2))
 
 int-to-float-result : tie.Need-int-to-float-result
 int-to-float-result c =

@@ -2,8 +2,8 @@
 use borrow.Author.Needs.{needs}
 use native.Mathlib.Omega.{arith}
 use mir.Facts.{toZ-ofZ}
-use Rattle.paeth.proofs.row.paeth_row.Statement.{statement}
-use Rattle.paeth.proofs.row.paeth_row.Tie as tie
+use Rattle.paeth_rows.proofs.row.paeth_row.Statement.{statement}
+use Rattle.paeth_rows.proofs.row.paeth_row.Tie as tie
 
 quad-row-requires : tie.Need-quad-row-requires
 quad-row-requires c κs =

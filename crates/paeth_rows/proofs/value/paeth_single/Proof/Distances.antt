@@ -1,7 +1,7 @@
 -- What `paeth_single` has worked out: x, y, their sum, and the three distances. Assumes nothing.
 use native.Mathlib.Omega.{arith}
 use mathlib.Core.Bool.{Bool, cond}
-use mathlib.Core.Path.{_≡_, sym, _∙_, ap}
+use mathlib.Core.Path.{_≡_, _∙_, ap}
 use lib.Dec.{leb}
 use mir.Facts.{toZ-ofZ}
 use mir.Syntax.{w32}
@@ -9,15 +9,11 @@ use mir.Val.{SFits, toZ, ofZ}
 use lib.IntN.{ℤ, pos, natAbs, negℤ, _+ℤ_, _-ℤ_}
 use Prim.Native.Nat.{_≤_}
 use Rattle.zint.proofs.Bound.{abs-add, abs-sub, sfits-abs}
-use Rattle.paeth.specs.Paeth.{dist}
-use Rattle.paeth.proofs.Laws.{left-dist, top-dist, corner-dist}
-use Rattle.paeth.proofs.value.paeth_single.Tie as tie
+use Rattle.paeth_rows.proofs.Laws.{less-none}
+use Rattle.paeth_rows.proofs.value.paeth_single.Tie as tie
 
 -- x, y and their sum
 module _ (c : tie.Start) where
-  abbrev pub b : ℤ
-  b = c .args .left +ℤ c .args .top -ℤ c .args .corner
-
   abbrev pub x : ℤ
   x = c .args .top -ℤ c .args .corner
 
@@ -37,33 +33,37 @@ module _ (c : tie.Start) where
   sum-fits = sfits-abs w32 (x +ℤ y) (omega (arith, sum-small))
 
   -- which is nearer, and the choices
-  abbrev pub near : ℤ → ℤ → Bool
-  near p q = leb (dist b p) (dist b q)
+  abbrev pub left-top : Bool
+  left-top = leb (natAbs x) (natAbs y)
+
+  abbrev pub left-corner : Bool
+  left-corner = leb (natAbs x) (natAbs (x +ℤ y))
+
+  abbrev pub top-corner : Bool
+  top-corner = leb (natAbs y) (natAbs (x +ℤ y))
 
   abbrev pub other-is : ℤ
-  other-is = cond (near (c .args .top) (c .args .corner)) x (pos 0)
+  other-is = cond top-corner x (pos 0)
 
   abbrev pub nearest-is : ℤ
-  nearest-is = cond (near (c .args .left) (c .args .corner)) y other-is
+  nearest-is = cond left-corner y other-is
 
 -- the three distances, as the tests read them
-pub to-left : (k : tie.After-nearness) → toZ w32 (ofZ w32 (k .nearness .result)) ≡ negℤ (pos (dist (b (k .before)) (k .before .args .left)))
+pub to-left : (k : tie.After-nearness) → toZ w32 (ofZ w32 (k .nearness .result)) ≡ negℤ (pos (natAbs (x (k .before))))
 to-left k =
     let c = k .before in
     toZ-ofZ {z = k .nearness .result} (record { sfits = k .nearness .ok })
     ∙ simp (toZ-ofZ, c .fits .top, c .fits .corner) at (k .nearness .ensures)
-    ∙ ap (λ n. negℤ (pos n)) (sym (left-dist (c .args .left) (c .args .top) (c .args .corner)))
 
-pub to-top : (k : tie.After-nearness2) → toZ w32 (ofZ w32 (k .nearness2 .result)) ≡ negℤ (pos (dist (b (k .before .before)) (k .before .before .args .top)))
+pub to-top : (k : tie.After-nearness2) → toZ w32 (ofZ w32 (k .nearness2 .result)) ≡ negℤ (pos (natAbs (y (k .before .before))))
 to-top k =
     let c = k .before .before in
     toZ-ofZ {z = k .nearness2 .result} (record { sfits = k .nearness2 .ok })
     ∙ simp (toZ-ofZ, c .fits .left, c .fits .corner) at (k .nearness2 .ensures)
-    ∙ ap (λ n. negℤ (pos n)) (sym (top-dist (c .args .left) (c .args .top) (c .args .corner)))
 
-pub to-corner : (k : tie.After-nearness3) → toZ w32 (ofZ w32 (k .nearness3 .result)) ≡ negℤ (pos (dist (b (k .before .before .before)) (k .before .before .before .args .corner)))
+pub to-corner : (k : tie.After-nearness3) → toZ w32 (ofZ w32 (k .nearness3 .result)) ≡ negℤ (pos (natAbs (x (k .before .before .before) +ℤ y (k .before .before .before))))
 to-corner k =
     let c = k .before .before .before in
     toZ-ofZ {z = k .nearness3 .result} (record { sfits = k .nearness3 .ok })
     ∙ simp (toZ-ofZ, c .fits .left, c .fits .top, c .fits .corner, x-fits c, y-fits c, sum-fits c) at (k .nearness3 .ensures)
-    ∙ ap (λ n. negℤ (pos n)) (sym (corner-dist (c .args .left) (c .args .top) (c .args .corner)))
+    ∙ ap (λ z. negℤ (pos (natAbs z))) (less-none (x c +ℤ y c))

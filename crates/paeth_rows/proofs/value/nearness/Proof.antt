@@ -6,8 +6,8 @@ use mir.Syntax.{w32}
 use lib.IntN.{pos, negℤ, _-ℤ_}
 use Rattle.zint.proofs.Bound.{abs-sub, abs-swap, sub-down, sfits-abs}
 use Rattle.zint.proofs.Order.{le-of-lt, le-of-not-lt}
-use Rattle.paeth.proofs.value.nearness.Statement.{statement}
-use Rattle.paeth.proofs.value.nearness.Tie as tie
+use Rattle.paeth_rows.proofs.value.nearness.Statement.{statement}
+use Rattle.paeth_rows.proofs.value.nearness.Tie as tie
 
 sub-result : tie.Need-sub-result
 sub-result c =

@@ -14,13 +14,13 @@ use Rattle.lists.specs.Block.{sample}
 use Rattle.zint.proofs.Bound.{back-abs}
 use Rattle.zint.proofs.Range.{inside-abs}
 use Rattle.lists.proofs.Fill.{filled-none, filled-more, filled-all}
-use Rattle.paeth.specs.Paeth.{paeth}
-use Rattle.paeth.proofs.row.long_row.Statement.{statement}
-use Rattle.paeth.proofs.row.long_row.Tie as tie
+use Rattle.paeth_rows.specs.Chosen.{chosen}
+use Rattle.paeth_rows.proofs.row.long_row.Statement.{statement}
+use Rattle.paeth_rows.proofs.row.long_row.Tie as tie
 
 -- the row's samples
 abbrev row-of : List ℤ → ℤ → ℤ → ℕ → Float
-row-of above l k i = sample (paeth l (getD above i (pos 0)) k)
+row-of above l k i = sample (chosen l (getD above i (pos 0)) k)
 
 abbrev Inv-loop : tie.InvT-loop
 Inv-loop above l corner row₀ c₀ row c =
