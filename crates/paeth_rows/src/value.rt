@@ -14,7 +14,7 @@ fn nearness(a: i32, b: i32) -> i32
 }
 
 // The nearest of left, top and corner to left + top - corner, chosen by how far it lies from corner.
-pub fn paeth_single(left: i32, top: i32, corner: i32) -> i32
+fn paeth_single(left: i32, top: i32, corner: i32) -> i32
     requires { ⌜ (natAbs left ≤ 4095) × (natAbs top ≤ 4095) × (natAbs corner ≤ 4095) ⌝ }
     ensures { λ r. ⌜ r ≡ chosen left top corner ⌝ }
 {
@@ -29,7 +29,7 @@ pub fn paeth_single(left: i32, top: i32, corner: i32) -> i32
 }
 
 // The same as a sample.
-pub fn paeth_sample(left: i32, top: i32, corner: i32) -> f32
+pub(crate) fn paeth_sample(left: i32, top: i32, corner: i32) -> f32
     requires { ⌜ (natAbs left ≤ 4095) × (natAbs top ≤ 4095) × (natAbs corner ≤ 4095) ⌝ }
     ensures { λ r. ⌜ r ≡ sample (chosen left top corner) ⌝ }
 {

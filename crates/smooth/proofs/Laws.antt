@@ -10,7 +10,7 @@ use Rattle.numbers.specs.Size.{isSize}
 use Rattle.zint.specs.Range.{inside, Edge}
 use Rattle.zint.proofs.Mean.{mean-is}
 use Rattle.zint.proofs.Range.{inside-abs, inside-pos, pos-inside}
-use Rattle.smooth_steps.specs.Parts.{entry, part, weighed, mean}
+use Rattle.smooth_steps.specs.Parts.{part, weighed, mean}
 use Rattle.smooth_steps.proofs.Parts.{weighed-most}
 use Rattle.smooth_weights.specs.Weights.{log2, scale, weight}
 use Rattle.smooth_weights.proofs.Sizes.{sized, size-some}
@@ -55,10 +55,10 @@ module _ (B : ℕ) (size : isSize B ≡ true) (M : ℕ) (e t : ℤ) (y : ℕ) (h
 -- ---- the three predictors
 module _ (B M : ℕ) (above left : List ℤ) (k : ℤ) (r c : ℕ) (size : isSize B ≡ true) (ha : Edge M (2 * B) above) (hl : Edge M (2 * B) left) (hr : r < B) (hc : c < B) where
   pub smoothV-inside : inside (pos M) (smoothVAt B above left k r c) ≡ true
-  smoothV-inside = smoothed-inside B size M (entry left B) (entry above c) r (hl B (omega arith)) (ha c (omega arith))
+  smoothV-inside = smoothed-inside B size M _ _ _ (hl B (omega arith)) (ha c (omega arith))
 
   pub smoothH-inside : inside (pos M) (smoothHAt B above left k r c) ≡ true
-  smoothH-inside = smoothed-inside B size M (entry above B) (entry left r) c (ha B (omega arith)) (hl r (omega arith))
+  smoothH-inside = smoothed-inside B size M _ _ _ (ha B (omega arith)) (hl r (omega arith))
 
   pub smooth-inside : inside (pos M) (smoothAt B above left k r c) ≡ true
   smooth-inside =

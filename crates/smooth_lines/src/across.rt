@@ -9,7 +9,7 @@ ghost use Rattle.lists.specs.Block.{sample};
 ghost use Rattle.smooth_steps.specs.Parts.{entry, part, weighed, Step, Entries, Weights};
 
 // The columns from `from` on, without weights.
-pub fn ramp_line(l: u32, e: u32, m: u32, k: u32, from: usize, line: &mut [u32])
+fn ramp_line(l: u32, e: u32, m: u32, k: u32, from: usize, line: &mut [u32])
     requires { ⌜ Step e 0 m k × (l ≤ 4095) × (from + length (now line) ≤ m) ⌝ }
     ensures { λ _. ⌜ now (line .exit) ≡ tab (length (now (line .entry))) (λ c. part m e l (m - 1 - (from + c))) ⌝ }
 {
@@ -24,7 +24,7 @@ pub fn ramp_line(l: u32, e: u32, m: u32, k: u32, from: usize, line: &mut [u32])
 }
 
 // The first columns, with their weights.
-pub fn weighted_line(l: u32, e: u32, m: u32, k: u32, weights: &[u8], line: &mut [u32])
+fn weighted_line(l: u32, e: u32, m: u32, k: u32, weights: &[u8], line: &mut [u32])
     requires { ⌜ Step e 0 m k × (l ≤ 4095) × (length (now line) ≤ m) ⌝ }
     requires { ⌜ (length (now line) ≤ length (now weights)) × ((i : ℕ) → i < length (now line) → getD (now weights) i 0 < 64) ⌝ }
     ensures { λ _. ⌜ now (line .exit) ≡ tab (length (now (line .entry))) (λ c. weighed m e l (m - 1 - c) (getD (now (weights .entry)) c 0)) ⌝ }

@@ -9,7 +9,7 @@ ghost use Rattle.lists.specs.Block.{sample};
 ghost use Rattle.smooth_steps.specs.Parts.{entry, part, weighed, mean, Step, Entries};
 
 // A row without weight.
-pub fn ramp_row(above: &[i32], e: u32, w: u32, m: u32, k: u32, row: &mut [f32])
+fn ramp_row(above: &[i32], e: u32, w: u32, m: u32, k: u32, row: &mut [f32])
     requires { ⌜ Entries (now above) (length (now row)) × Step e w m k ⌝ }
     ensures { λ _. ⌜ now (row .exit) ≡ tab (length (now (row .entry))) (λ c. sample (pos (part m e (natAbs (entry (now (above .entry)) c)) w))) ⌝ }
 {
@@ -22,7 +22,7 @@ pub fn ramp_row(above: &[i32], e: u32, w: u32, m: u32, k: u32, row: &mut [f32])
 }
 
 // A row with the weight v.
-pub fn smooth_row(above: &[i32], e: u32, w: u32, m: u32, k: u32, v: u32, row: &mut [f32])
+fn smooth_row(above: &[i32], e: u32, w: u32, m: u32, k: u32, v: u32, row: &mut [f32])
     requires { ⌜ Entries (now above) (length (now row)) × Step e w m k × (v < 64) ⌝ }
     ensures { λ _. ⌜ now (row .exit) ≡ tab (length (now (row .entry))) (λ c. sample (pos (weighed m e (natAbs (entry (now (above .entry)) c)) w v))) ⌝ }
 {

@@ -1,4 +1,4 @@
-// The rows of a block of smooth, smooth_v or smooth_h, one after the other (document 01, The predictors), of a size bs = 2^k whose weights are given.
+// The rows of a block of the smooth predictors, one after the other (document 01, The predictors), of a size bs = 2^k whose weights are given.
 use smooth_lines::across;
 use smooth_lines::down;
 use smooth_lines::quad;

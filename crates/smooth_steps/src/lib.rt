@@ -17,7 +17,7 @@ pub fn natural(x: i32) -> u32
 }
 
 // w parts of t and the rest, by 2^k.
-pub fn ramp(t: u32, w: u32, rest: u32, k: u32) -> u32
+fn ramp(t: u32, w: u32, rest: u32, k: u32) -> u32
     requires { ⌜ (t ≤ 4095) × (w ≤ 64) × (rest ≤ 270000) × (k ≤ 6) ⌝ }
     ensures { λ r. ⌜ r ≡ (t * w + rest) / 2 ^ k ⌝ }
 {

@@ -1,4 +1,5 @@
-// The weights of smooth, smooth_v and smooth_h. "The 3 x 64 `SM_WEIGHTS` table is copied; its rule is shown over all 192 entries." (document 01, The predictors)
+// The weights of the smooth predictors (document 01, The predictors): "The 3 x 64 `SM_WEIGHTS` table is copied; its rule is shown over all 192
+// entries."
 mod sm_weights;
 
 use crate::sm_weights::SM_WEIGHTS;
