@@ -16,8 +16,8 @@ use Rattle.sums.specs.declared.window.Window.{Window}
 use Rattle.derive.specs.Rules.{deriveAnswer}
 use Rattle.derive.specs.Derived.{windowParams, written}
 use Rattle.predict.specs.Predicted.{predictedBlock}
-use Rattle.predict.specs.Rules.{predictAnswer}
-use Rattle.predict.specs.declared.spec.Block.{Block}
+use Rattle.predict_rules.specs.Rules.{predictAnswer}
+use Rattle.predict_rules.specs.declared.block.Block.{Block}
 
 -- a predictor's call; named says that its mode's words name a mode
 abbrev pub PredictedByC : Bool → Predictor → ℕ → ℕ → List ℤ → List ℤ → ℤ → List Float → List Float → ℕ → Type 0

@@ -1,6 +1,6 @@
 // The colour calls (document 01, Colour parameters).
 use sums::window::Window;
-ghost use Rattle.predict.specs.Rules.{blockOf};
+ghost use Rattle.predict.specs.Predicted.{blockOf};
 ghost use Rattle.latch.specs.Exported.{window, DerivedC, PredictedBlockC};
 
 // `derive::derive_into`, by its answer's number.

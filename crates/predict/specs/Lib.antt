@@ -1,9 +1,4 @@
--- Colour prediction.
-pub mod Needed
+-- Colour prediction: the block of samples, and what the call promises. Accepted and Lines are for the code.
 pub mod Predicted
-pub mod Rules
-pub mod Mixed
-pub mod Wides
-pub mod Placed
+pub mod Accepted
 pub mod Lines
-pub mod Area

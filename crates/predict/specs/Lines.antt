@@ -1,43 +1,39 @@
 -- Where the code finds the direction's luma along a row, as entries of the list.
 use Prim.Native.Nat.{ℕ, _+_, _-_, _*_, _≤_, _<_}
-use mathlib.Core.Bool.{cond}
+use mathlib.Core.Bool.{not, cond, _&&_}
 use mathlib.Core.List.{List}
-use lib.Dec.{ltb, eqb}
-use lib.IntN.{ℤ, pos}
-use lib.ListN.{length, getD}
+use lib.Dec.{ltb}
+use lib.IntN.{ℤ}
+use lib.ListN.{length}
+use Rattle.numbers.specs.Colour.{theColour, rowsUp, columnsLeft}
 use Rattle.terms.specs.Terms.{stride}
-use Rattle.predict.specs.Mixed.{Luma, mixed}
-use Rattle.predict.specs.declared.mix.Mix.{Mix}
-use Rattle.predict.specs.declared.spec.Block.{Block}
-
-abbrev pub at : List ℤ → ℕ → ℤ
-at luma i = getD luma i (pos 0)
+use Rattle.predict_row.specs.Mixed.{Luma, mixed}
+use Rattle.predict_row.specs.Runs.{at}
+use Rattle.predict_row.specs.declared.mix.Mix.{Mix}
+use Rattle.predict_rules.specs.declared.block.Block.{Block}
 
 -- where row j of the block starts
 abbrev pub startOf : Block → ℕ → ℕ
 startOf b j = (b .«above_lines» + j) * stride + b .«left_lines»
 
--- so many samples of a row take the centre for want of a neighbour
+-- so many samples at the start of a row take the centre for want of a neighbour
 unfoldable pub leadOf : Block → ℕ
-leadOf b = cond (eqb (b .direction) 2) (cond (b .«have_left») 0 1) 0
+leadOf b = cond (b .«have_left») 0 (columnsLeft (theColour (b .direction)))
+
+-- so many rows above row j the direction's luma is: none where they are missing
+unfoldable pub upAt : Block → ℕ → ℕ
+upAt b j = cond (ltb j (rowsUp (theColour (b .direction))) && not (b .«have_top»)) 0 (rowsUp (theColour (b .direction)))
 
 -- so far before the centre the direction's luma is, after them
 unfoldable pub stepOf : Block → ℕ → ℕ
-stepOf b j = cond (eqb (b .direction) 1) (cond (b .«have_top») stride (cond (eqb j 0) 0 stride)) (cond (eqb (b .direction) 2) 1 0)
+stepOf b j = upAt b j * stride + columnsLeft (theColour (b .direction))
 
 -- the direction's entry for column i of a row that starts at s
 abbrev pub tap : ℕ → ℕ → ℕ → ℕ → ℕ
 tap s step lead i = cond (ltb i lead) (s + i) (s + i - step)
 
--- two runs of luma that give n samples
-pub record Runs (k : Mix) (near centre : List ℤ) (n : ℕ) : Type 0 where
-  pub near-long : n ≤ length near
-  pub centre-long : n ≤ length centre
-  pub near-in : (i : ℕ) → i < n → Luma k (at near i)
-  pub centre-in : (i : ℕ) → i < n → Luma k (at centre i)
-
--- a row of n samples
-pub record Line (k : Mix) (luma : List ℤ) (s step lead n : ℕ) : Type 0 where
+-- the luma of a row of n samples
+pub record LumaRow (k : Mix) (luma : List ℤ) (s step lead n : ℕ) : Type 0 where
   pub leads : lead ≤ n
   pub behind : step ≤ s + lead
   pub long : s + n ≤ length luma

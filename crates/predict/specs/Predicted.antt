@@ -1,38 +1,47 @@
--- "Terms: the direction's luma >> 3, (c x c + 2^(D-1)) >> D, and 2^(D-1)" (document 01, Colour parameters): the predicted sample, and the block of them.
+-- The block that the parameters give of its luma (document 01, Colour parameters), and what the call promises.
 use Prim.Native.Nat.{ℕ, _*_}
-use mathlib.Core.Bool.{cond}
+use mathlib.Core.Bool.{Bool}
 use mathlib.Core.List.{List}
-use lib.IntN.{ℤ, pos, negℤ, _+ℤ_}
-use lib.Signed.{ltZ}
-use Rattle.numbers.specs.Depth.{most}
+use lib.IntN.{ℤ}
+use lib.ListN.{length}
+use Rattle.numbers.specs.declared.answer.Answer.{Answer}
 use Rattle.lists.specs.Fill.{filled}
 use Rattle.lists.specs.Block.{rows}
-use Rattle.fixed.specs.Product.{mulFixed}
-use Rattle.terms.specs.Terms.{eighth, middle, squared}
-use Rattle.predict.specs.Needed.{valueAt, centreAt, directionAt}
-use Rattle.predict.specs.declared.spec.Block.{Block}
+use Rattle.ladder.specs.Promise.{lent, Promise}
+use Rattle.terms.specs.Terms.{entry}
+use Rattle.sums.specs.declared.window.Window.{Window}
+use Rattle.predict_row.specs.Sample.{total, thirdOf, clipped}
+use Rattle.predict_rules.specs.Needed.{valueAt, centreAt, directionAt}
+use Rattle.predict_rules.specs.Rules.{predictAnswer}
+use Rattle.predict_rules.specs.declared.block.Block.{Block}
 
--- z clipped to low..high
-unfoldable pub clip : ℤ → ℤ → ℤ → ℤ
-clip low high z = cond (ltZ z low) low (cond (ltZ high z) high z)
-
--- the sum of the terms, each times its parameter: n is the direction's luma, c the centre's, and third what the third term gives
-unfoldable pub total : ℕ → ℤ → ℤ → ℤ → ℤ → ℤ → ℤ
-total D p0 p1 third n c = mulFixed p0 (eighth n) 16 +ℤ mulFixed p1 (squared D (eighth c)) 16 +ℤ third
-
--- the third term's is one number for the whole block
-abbrev pub thirdOf : ℕ → ℤ → ℤ
-thirdOf D p2 = mulFixed p2 (pos (middle D)) 16
-
--- clipped to 16 bits with a sign, and then to 0..M
-unfoldable pub clipped : ℕ → ℤ → ℤ
-clipped D z = clip (pos 0) (pos (most D)) (clip (negℤ (pos 32768)) (pos 32767) z)
-
--- the sample at row r and column c
-abbrev pub predictedAt : List ℤ → Block → ℤ → ℤ → ℤ → ℕ → ℕ → ℤ
-predictedAt luma b p0 p1 p2 r c =
-    clipped (b .d) (total (b .d) p0 p1 (thirdOf (b .d) p2) (valueAt luma (directionAt b c r)) (valueAt luma (centreAt b c r)))
+-- the sample at row r and column c, where `at` tells luma by column and row
+abbrev pub predictedAt : (ℕ → ℕ → ℤ) → Block → ℤ → ℤ → ℤ → ℕ → ℕ → ℤ
+predictedAt at b p0 p1 p2 r c =
+    clipped (b .d) (total (b .d) p0 p1 (thirdOf (b .d) p2) (valueAt at (directionAt b c r)) (valueAt at (centreAt b c r)))
 
 -- the block, row by row; what follows it is as it was
 unfoldable pub predictedBlock : List ℤ → Block → ℤ → ℤ → ℤ → List ℤ → List ℤ
-predictedBlock luma b p0 p1 p2 out = filled (b .height * b .width) (rows (b .width) (predictedAt luma b p0 p1 p2)) out
+predictedBlock luma b p0 p1 p2 out = filled (b .height * b .width) (rows (b .width) (predictedAt (entry luma) b p0 p1 p2)) out
+
+-- a block by the numbers of its call
+abbrev pub blockOf : Window → ℕ → ℕ → Bool → Bool → ℕ → ℕ → Block
+blockOf w width height haveTop haveLeft direction D = record {
+  «ref_width» = w .«ref_width»;
+  «ref_height» = w .«ref_height»;
+  «above_lines» = w .«above_lines»;
+  «left_lines» = w .«left_lines»;
+  width = width;
+  height = height;
+  «have_top» = haveTop;
+  «have_left» = haveLeft;
+  direction = direction;
+  d = D;
+}
+
+-- what a call promises of its answer r, and of the output before and after
+abbrev pub PredictedBlock : List ℤ → Block → ℤ → ℤ → ℤ → List ℤ → List ℤ → Answer → Type 0
+PredictedBlock luma b p0 p1 p2 before after r =
+    Promise (predictAnswer luma b (length before))
+    (lent (predictAnswer luma b (length before)) (predictedBlock luma b p0 p1 p2 before) before)
+    r after

@@ -1,17 +1,11 @@
 // Colour prediction, `predict_block` of mhccp.rs (document 01, Colour parameters). The public call takes any input, and tests the refusals 2, 10, 11, 12,
 // 9, 13 in that order.
-pub mod block;
-pub mod mix;
-pub mod range;
-pub mod row;
-pub mod rules;
-pub mod spec;
-pub mod value;
+mod block;
 
-use crate::spec::Block;
 use numbers::answer::Answer;
+use predict_rules::block::Block;
 use sums::window::Window;
-ghost use Rattle.predict.specs.Rules.{blockOf, PredictedBlock};
+ghost use Rattle.predict.specs.Predicted.{blockOf, PredictedBlock};
 
 // Done, with the block in out[..width * height], or a refusal, with nothing written.
 pub fn predict_block(
@@ -42,7 +36,7 @@ pub fn predict_block(
         direction: direction,
         d: d,
     };
-    let answer = rules::refused(luma, b, out.len());
+    let answer = predict_rules::refused(luma, b, out.len());
     if !answer.is_done() {
         return answer;
     }

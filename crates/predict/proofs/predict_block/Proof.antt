@@ -8,9 +8,10 @@ use mir.Facts.{toZ-ofZ}
 use Rattle.numbers.specs.Answer.{isDone}
 use Rattle.numbers.proofs.Named.{done-is}
 use Rattle.ladder.proofs.Promise.{refused, finished}
-use Rattle.predict.specs.Rules.{blockOf}
-use Rattle.predict.specs.declared.spec.Block.{Block}
-use Rattle.predict.proofs.Accepted.{Accepted, accepted}
+use Rattle.predict.specs.Predicted.{blockOf}
+use Rattle.predict_rules.specs.declared.block.Block.{Block}
+use Rattle.predict.specs.Accepted.{Accepted}
+use Rattle.predict.proofs.Accepted.{accepted}
 use Rattle.predict.proofs.predict_block.Statement.{statement}
 use Rattle.predict.proofs.predict_block.Tie as tie
 
@@ -39,7 +40,7 @@ returns c =
     refused _ _ (c .before .before .refused .ensures) (sym (c .before .is-done .ensures) ∙ not-true (c .before .is-done .result) (c .if1 .taken))
 
 predict-into-requires : tie.Need-predict-into-requires
-predict-into-requires c κs = let g = granted (c .before) in ((g .depth, g .place, g .read), g .long)
+predict-into-requires c κs = granted (c .before)
 
 same-length : tie.Need-same-length
 same-length c = search needs

@@ -1,20 +1,24 @@
 -- `lead_of` meets its contract. Assumes nothing.
-use borrow.Author.Tests.{ne-eqb, eq-eqb}
+use borrow.Author.Needs.{needs}
+use mathlib.Core.Path.{_∙_, ap}
+use Rattle.numbers.specs.Colour.{columnsLeft}
 use Rattle.predict.specs.Lines.{leadOf}
 use Rattle.predict.proofs.block.lead_of.Statement.{statement}
 use Rattle.predict.proofs.block.lead_of.Tie as tie
 
+colour-requires : tie.Need-colour-requires
+colour-requires c κs = search needs
+
+columns-left-requires : tie.Need-columns-left-requires
+columns-left-requires c κs = search needs
+
 returns : tie.Need-returns
 unfolding leadOf
-returns c = simp (ne-eqb _ 2 (c .if1 .taken))
+returns c = simp (c .if1 .taken)
 
 returns-2 : tie.Need-returns-2
 unfolding leadOf
-returns-2 c = simp (eq-eqb _ 2 (c .before .if1 .left), c .if2 .taken)
-
-returns-3 : tie.Need-returns-3
-unfolding leadOf
-returns-3 c = simp (eq-eqb _ 2 (c .before .if1 .left), c .if2 .left)
+returns-2 c = simp (c .before .before .if1 .left) (c .columns-left .ensures ∙ ap columnsLeft (c .before .colour .ensures))
 
 pub lead-of-spec : {M : Type 1} → statement M
-lead-of-spec = tie.close (tie.spec returns returns-2 returns-3)
+lead-of-spec = tie.close (tie.spec colour-requires columns-left-requires returns returns-2)

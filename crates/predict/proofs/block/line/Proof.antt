@@ -7,36 +7,12 @@ use Rattle.predict.proofs.Along.{all-runs, all-same}
 use Rattle.predict.proofs.block.line.Statement.{statement}
 use Rattle.predict.proofs.block.line.Tie as tie
 
-sub-near : tie.Need-sub-near
-sub-near c = search needs
+sub-row-at : tie.Need-sub-row-at
+sub-row-at c = search needs
 
-mul-row : tie.Need-mul-row
-mul-row c = search needs
-
-sub-row : tie.Need-sub-row
-sub-row c = search needs
-
-part-row-start : tie.Need-part-row-start
-part-row-start c = search needs
-
-part-row-end : tie.Need-part-row-end
-part-row-end c = search needs
-
-mul-row-2 : tie.Need-mul-row-2
-mul-row-2 c = search needs
-
-sub-row-2 : tie.Need-sub-row-2
-sub-row-2 c = search needs
-
-part-row-start-2 : tie.Need-part-row-start-2
-part-row-start-2 c = search needs
-
-part-row-end-2 : tie.Need-part-row-end-2
-part-row-end-2 c = search needs
-
-row-requires : tie.Need-row-requires
-row-requires c κs =
-    let t = c .before .before .before in
+row-at-requires : tie.Need-row-at-requires
+row-at-requires c κs =
+    let t = c .before in
     let s = t .before in
     (s .pre .0, s .pre .1, all-runs _ _ _ _ _ _ (s .pre .2) (t .if1 .taken))
 
@@ -48,9 +24,9 @@ same-length c = search needs
 
 returns : tie.Need-returns
 returns c =
-    let t = c .before .before .before .before .before in
+    let t = c .before .before .before in
     let s = t .before in
-    c .before .row .ensures ∙ tab-same (length (s .args .row .now)) _ _ (all-same _ _ _ _ _ _ (s .pre .2) (t .if1 .taken))
+    c .before .row-at .ensures ∙ tab-same (length (s .args .row .now)) _ _ (all-same _ _ _ _ _ _ (s .pre .2) (t .if1 .taken))
 
 same-length-2 : tie.Need-same-length-2
 same-length-2 c = search needs
@@ -62,16 +38,8 @@ pub line-spec : {M : Type 1} → statement M
 line-spec =
     tie.close
     (tie.spec
-    sub-near
-    mul-row
-    sub-row
-    part-row-start
-    part-row-end
-    mul-row-2
-    sub-row-2
-    part-row-start-2
-    part-row-end-2
-    row-requires
+    sub-row-at
+    row-at-requires
     led-line-requires
     same-length
     returns

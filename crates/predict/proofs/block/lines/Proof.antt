@@ -8,8 +8,9 @@ use Rattle.lists.specs.Fill.{filled}
 use Rattle.lists.specs.Block.{rows}
 use Rattle.lists.proofs.Fill.{filled-none}
 use Rattle.lists.proofs.Block.{filled-row, part-length}
-use Rattle.predict.specs.Mixed.{mixed}
-use Rattle.predict.specs.Lines.{at, startOf, tap, found}
+use Rattle.predict_row.specs.Mixed.{mixed}
+use Rattle.predict_row.specs.Runs.{at}
+use Rattle.predict.specs.Lines.{startOf, tap, found}
 use Rattle.predict.proofs.Taken.{line-of, line-at}
 use Rattle.predict.proofs.block.lines.Statement.{statement}
 use Rattle.predict.proofs.block.lines.Tie as tie
@@ -30,16 +31,16 @@ module _ (c : tie.In-loop Inv-loop μ-loop) where
 
   -- the row lies in the output
   room : c .before .loop .o + width ≤ length (c .before .loop .out)
-  room = omega (arith, mul-le-mul-right width (c .loop-test .taken), mul-comm width (a .args .b .height), a .pre .0 .2)
+  room = omega (arith, mul-le-mul-right width (c .loop-test .taken), mul-comm width (a .args .b .height), a .pre .0 .long)
 
 lead-of-requires : tie.Need-lead-of-requires Inv-loop μ-loop
-lead-of-requires c κs = tt
+lead-of-requires c κs = c .pre .0 .colour
 
 mul-s : tie.Need-mul-s Inv-loop μ-loop
-mul-s c = omega (arith, c .before .before .pre .0 .0 .above)
+mul-s c = omega (arith, c .before .before .pre .0 .place .above)
 
 add-s : tie.Need-add-s Inv-loop μ-loop
-add-s c = let g = c .before .before .before .pre .0 .0 in omega (arith, g .above, g .left)
+add-s c = let g = c .before .before .before .pre .0 .place in omega (arith, g .above, g .left)
 
 loop-holds : tie.Need-loop-holds Inv-loop μ-loop
 loop-holds c = (omega arith, omega arith, omega arith, refl, sym (filled-none _ _))
@@ -48,7 +49,7 @@ add-e : tie.Need-add-e Inv-loop μ-loop
 add-e c = omega (arith, room c)
 
 step-of-requires : tie.Need-step-of-requires Inv-loop μ-loop
-step-of-requires c κs = tt
+step-of-requires c κs = a c .pre .0 .colour
 
 mul-line : tie.Need-mul-line Inv-loop μ-loop
 mul-line c = omega (arith, room (c .before))
@@ -68,13 +69,13 @@ line-requires c κs =
     let k = l .before in
     let a = a l in
     let m = part-length (k .loop .o) (a .args .b .width) (k .loop .out) (room l) in
-    let r = line-of (a .args .b) _ (a .pre .0 .0) (a .args .k) (a .args .luma .now) refl (a .pre .1 .1) (a .pre .0 .1) (k .loop .j) (l .loop-test .taken) in
+    let r = line-of (a .args .b) _ (a .pre .0 .place) (a .args .k) (a .args .luma .now) refl (a .pre .1 .1) (a .pre .0 .read) (k .loop .j) (l .loop-test .taken) in
     (a .pre .1 .0, a .pre .1 .2, line-at _ _ _ (k .loop .j) _ _ _ _ (k .loop .inv .2) (c .before .step-of .ensures) (k .before .before .before .lead-of .ensures) m r)
 
 add-s-2 : tie.Need-add-s-2 Inv-loop μ-loop
 add-s-2 c =
     let l = c .before .before .before .before in
-    let g = a l .pre .0 .0 in
+    let g = a l .pre .0 .place in
     omega (arith, g .above, g .left, g .high)
 
 add-j : tie.Need-add-j Inv-loop μ-loop

@@ -21,7 +21,7 @@ lines-requires c κs =
     let t = c .before .before .before in
     let o = t .before in
     let s = o .before in
-    ((s .pre .0 .1, s .pre .0 .2, s .pre .1), (o .of .ensures .0, o .of .ensures .1 .bits, λ e. absurd (true≢false (sym (t .if1 .taken) ∙ e))))
+    (s .pre, (o .of .ensures .0, o .of .ensures .1 .bits, λ e. absurd (true≢false (sym (t .if1 .taken) ∙ e))))
 
 tabled-requires : tie.Need-tabled-requires
 tabled-requires c κs = search needs
@@ -34,7 +34,7 @@ returns c =
     let o = c .before .before .before .before .before .before in
     let s = o .before in
     let made = simp (toZ-ofZ, s .fits .p0, s .fits .p1, s .fits .p2) at (o .of .ensures .1) in
-    c .before .lines .ensures ∙ block-is (s .args .b) _ (s .pre .0 .1) (o .of .result) (s .args .luma .now) _ _ _ made (s .args .out .now)
+    c .before .lines .ensures ∙ block-is (s .args .b) _ (s .pre .place) (o .of .result) (s .args .luma .now) _ _ _ made (s .args .out .now)
 
 same-length-2 : tie.Need-same-length-2
 same-length-2 c = search needs
@@ -44,7 +44,7 @@ returns-2 c =
     let o = c .before .before .before .before in
     let s = o .before in
     let made = simp (toZ-ofZ, s .fits .p0, s .fits .p1, s .fits .p2) at (o .of .ensures .1) in
-    c .before .tabled .ensures ∙ block-is (s .args .b) _ (s .pre .0 .1) (o .of .result) (s .args .luma .now) _ _ _ made (s .args .out .now)
+    c .before .tabled .ensures ∙ block-is (s .args .b) _ (s .pre .place) (o .of .result) (s .args .luma .now) _ _ _ made (s .args .out .now)
 
 pub predict-into-spec : {M : Type 1} → statement M
 predict-into-spec =
