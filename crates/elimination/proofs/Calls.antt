@@ -15,19 +15,15 @@ pub record Got (m : ℕ) (d r : ℤ) : Type 0 where
   pub size : natAbs r ≤ m
   pub most : natAbs (thru r) ≤ m
 
+got-call : {m : ℕ} {d r : ℤ} → mag r < 2 ^ 31 → r ≡ d → natAbs r ≤ m → Got m d r
+got-call {r = r} ok p l = let b = back w32 {z = r} (record { sfits = ok }) in record { raw = p; is = b ∙ p; size = l; most = simp b l }
+
 pub got-reduced :
     (v f u r : ℤ) → SFits w32 v → SFits w32 f → SFits w32 u → mag r < 2 ^ 31
     → (r ≡ reduced (thru v) (thru f) (thru u)) × (natAbs r ≤ natAbs (thru v) + 2 ^ 29) → Got (natAbs v + 2 ^ 29) (reduced v f u) r
-got-reduced v f u r hv hf hu ok e =
-    let b = back w32 {z = r} (record { sfits = ok }) in
-    let d : r ≡ reduced v f u = simp (back w32 hv, back w32 hf, back w32 hu) at (e .0) in
-    let m : natAbs r ≤ natAbs v + 2 ^ 29 = simp (back w32 hv) at (e .1) in
-    record { raw = d; is = b ∙ d; size = m; most = simp b m }
+got-reduced v f u r hv hf hu ok e = got-call ok (simp (back w32 hv, back w32 hf, back w32 hu) at (e .0)) (simp (back w32 hv) at (e .1))
 
 pub got-unit :
     (p v r : ℤ) → SFits w32 p → SFits w32 v → mag r < 2 ^ 31 → (r ≡ unit (thru p) (thru v)) × (natAbs r ≤ 2 ^ 29)
     → Got (2 ^ 29) (unit p v) r
-got-unit p v r hp hv ok e =
-    let b = back w32 {z = r} (record { sfits = ok }) in
-    let d : r ≡ unit p v = simp (back w32 hp, back w32 hv) at (e .0) in
-    record { raw = d; is = b ∙ d; size = e .1; most = simp b (e .1) }
+got-unit p v r hp hv ok e = got-call ok (simp (back w32 hp, back w32 hv) at (e .0)) (e .1)

@@ -113,6 +113,7 @@ turned (negsuc n) h f =
       abs = omega arith;
     }
 
-pub kept : (z : ℤ) → ltZ z (pos 0) ≡ false → SFits w32 z → T (nonNeg z) × Fits w32 (natAbs z)
-kept (pos n) h f = (tt, record { fits = omega (arith, f .sfits) })
-kept (negsuc n) h f = absurd (omega (arith, ltZ-false (negsuc n) (pos 0) h))
+-- a number that is not negative
+pub upward : (z : ℤ) → ltZ z (pos 0) ≡ false → SFits w32 z → T (nonNeg z) × Fits w32 (natAbs z)
+upward (pos n) h f = (tt, record { fits = omega (arith, f .sfits) })
+upward (negsuc n) h f = absurd (omega (arith, ltZ-false (negsuc n) (pos 0) h))

@@ -1,4 +1,5 @@
--- Colour prediction: the block of samples, and what the call promises. Accepted and Lines are for the code.
+-- To be believed: the block of samples, and what the call promises.
 pub mod Predicted
+-- For the code: what it can count on, and where it finds a row's luma.
 pub mod Accepted
 pub mod Lines

@@ -1,5 +1,6 @@
--- What a colour prediction tests: the places of luma that its block needs, and its rules. Placed and Area are for the code.
+-- To be believed: the places of luma that a predicted sample needs, and the rules of a call.
 pub mod Needed
 pub mod Rules
+-- For the code: what the rules grant, and the area that it tests.
 pub mod Placed
 pub mod Area

@@ -6,13 +6,14 @@ use native.Mathlib.Omega.{arith}
 use native.Mathlib.Nat as N
 use lib.Bits.{bitAnd, and-high}
 use lib.Pow.{pow-add}
-use lib.IntN.{ℤ, pos, negsuc, negℤ, natAbs, _+ℤ_, _*ℤ_}
+use lib.IntN.{ℤ, pos, negsuc, natAbs, _+ℤ_, _*ℤ_}
 use lib.Signed.{shrZ}
-use Rattle.zint.proofs.Parts.{same, neg, add, mul, shr}
+use Rattle.zint.proofs.Parts.{same, mul}
 use Rattle.zint.proofs.Bound.{abs-times}
 use Rattle.fixed.specs.Product.{digits, over, narrow, signed, near, mulFixed}
 use Rattle.product_table.specs.Wide.{cleared, mask, keptProduct, halfOf}
 use Rattle.fixed.proofs.Shift.{shr-pow-pos}
+use Rattle.fixed.proofs.Away.{down}
 use Rattle.fixed.proofs.Rounding.{near-is, rounded-near}
 use Rattle.fixed.proofs.Short.{signed-mul}
 
@@ -48,15 +49,9 @@ near-scaled x o h =
     ∙ near-is x (16 - o) (omega arith)
 
 -- rounding halves away from 0, as a shift that rounds down
-round-down : (x : ℕ) → negℤ (pos ((x + 32768) / 65536)) ≡ shrZ (negℤ (pos x) +ℤ pos 32767) 65536
-round-down x =
-    let z = negℤ (pos x) +ℤ pos 32767 in
-    let q = (x + 32768) / 65536 in
-    same _ _ (omega (arith, neg (pos q), neg (pos x), add (negℤ (pos x)) (pos 32767), shr z 65536 (omega arith)))
-
 pub shift-round : (a : ℤ) (n : ℕ) → signed a (near (natAbs a * n) 16) ≡ shrZ (a *ℤ pos n +ℤ halfOf a) 65536
 shift-round (pos m) n = refl
-shift-round (negsuc m) n = round-down (suc m * n)
+shift-round (negsuc m) n = sym (down (suc m * n) 32768 (omega arith))
 
 -- a shift keeps the sign
 half-shr : (a : ℤ) (m : ℕ) → halfOf (shrZ a m) ≡ halfOf a

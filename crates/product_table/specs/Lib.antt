@@ -1,2 +1,2 @@
--- A first factor's table, and the product from it.
+-- For the code alone: what a first factor's table holds, and the product from it, which is shown equal to the product of the crate `fixed`.
 pub mod Wide

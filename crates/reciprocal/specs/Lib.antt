@@ -1,2 +1,2 @@
--- The reciprocal over whole numbers.
+-- To be believed: the reciprocal over whole numbers.
 pub mod Division

@@ -8,7 +8,7 @@ use mir.Syntax.{w32}
 use mir.Val.{toZ, ofZ}
 use borrow.Author.Needs.{needs}
 use Rattle.zint.proofs.Bound.{back}
-use Rattle.fixed.proofs.Shift.{Turned, turned, kept}
+use Rattle.fixed.proofs.Shift.{Turned, turned, upward}
 use Rattle.fixed.proofs.product.magnitude.Statement.{statement}
 use Rattle.fixed.proofs.product.magnitude.Tie as tie
 
@@ -42,7 +42,7 @@ add-result-2 c =
 cast-result-2 : tie.Need-cast-result-2
 cast-result-2 c =
     let s = c .before in
-    simp (back w32 (s .fits .a)) (kept (s .args .a) (simp (back w32 (s .fits .a)) at (c .if1 .left)) (s .fits .a))
+    simp (back w32 (s .fits .a)) (upward (s .args .a) (simp (back w32 (s .fits .a)) at (c .if1 .left)) (s .fits .a))
 
 returns : tie.Need-returns
 returns c =
