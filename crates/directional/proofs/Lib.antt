@@ -4,3 +4,4 @@ pub mod OneEdge
 pub mod TwoEdges
 pub mod Cases
 pub mod Named
+pub mod Inside

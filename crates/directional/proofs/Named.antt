@@ -1,16 +1,15 @@
--- What words that name a direction are good for: the size's strips, the limits' range. Assumes nothing.
-use mathlib.Core.Bool.{Bool, true, false, cond, _&&_}
+-- What words that name a direction are good for, and the strips of a size. Assumes nothing.
+use mathlib.Core.Bool.{true, _&&_}
 use mathlib.Core.Path.{_≡_}
 use Prim.Native.Nat.{ℕ, _*_, _/_, _≤_, _<_}
 use native.Mathlib.Omega.{arith}
-use lib.Dec.{leb}
 use Rattle.numbers.specs.Dir.{isDir, isDelta}
 use Rattle.numbers.specs.Flag.{noStray}
 use Rattle.numbers.specs.Size.{isSize}
 use Rattle.numbers.proofs.Agree.{size-all}
 use Rattle.zint.proofs.Range.{and-both}
 use Rattle.zones.specs.Listed.{Fours}
-use Rattle.directional.specs.Words.{isNamed, limitOf}
+use Rattle.directional.specs.Words.{isNamed}
 
 pub fours : (B : ℕ) → isSize B ≡ true → Fours B
 fours B e = size-all (λ x. (0 < x) × (x ≤ 64) × (4 * (x / 4) ≡ x)) B (omega arith) e
@@ -20,11 +19,3 @@ unfolding isNamed
 named-all direction delta flags e =
     let p = and-both (isDir direction) (isDelta delta && noStray flags) e in
     (p .0, and-both (isDelta delta) (noStray flags) (p .1) .0)
-
-pub limit-most : (B word : ℕ) → B ≤ 65535 → word ≤ 65535 → limitOf B word ≤ 65535
-unfolding limitOf
-limit-most B word p q = pick (leb 1 word)
-  where
-    pick : (t : Bool) → cond t word B ≤ 65535
-    pick true = q
-    pick false = p

@@ -10,40 +10,33 @@ use lib.IntN.{ℤ, pos, natAbs}
 use Rattle.zint.specs.Range.{inside, Edge}
 use Rattle.lists.specs.Fill.{filled}
 use Rattle.lists.specs.Block.{block}
-use Rattle.filter.specs.Strength.{strength}
-use Rattle.filter.specs.Filter.{edge, padded, limit}
+use Rattle.filter.specs.Filter.{edge, padded, filtered}
 use Rattle.filter.proofs.Filtered.{filtered-inside}
-use Rattle.filter.proofs.Most.{strength-most}
 use Rattle.filter.proofs.Ready.{ready-at, ready-inside}
-use Rattle.zones.specs.Steps.{step}
-use Rattle.zones.specs.Zones.{zone1, zone3, ready}
+use Rattle.setting.specs.Steps.{step}
+use Rattle.setting.proofs.Table.{step-low}
+use Rattle.zones.specs.Zones.{zone1, zone3}
 use Rattle.zones.specs.Listed.{ahead, Fours}
-use Rattle.zones.proofs.Inside.{step-low}
 use Rattle.zones.proofs.Blocks.{zone1-block, zone3-block}
-use Rattle.directional.proofs.Samples.{m-is, in-most, in-sample, edge-sample}
+use Rattle.directional.proofs.Samples.{m-is, in-sample, edge-sample}
 
--- a is the angle that the step is of, and d its distance from the edge's axis
-pub record OneEdge (B a d most : ℕ) (filter smooth : Bool) (m k : ℤ) (es : List ℤ) : Type 0 where
+-- a is the angle that the step is of; the edge is filtered by the strength st below the limit lim
+pub record OneEdge (B a st lim : ℕ) (m k : ℤ) (es : List ℤ) : Type 0 where
   pub fours : Fours B
   pub low : 36 ≤ a
   pub high : a < 90
+  pub gentle : st ≤ 3
   pub entries : Edge (natAbs m) (B + B) es
-  pub corner : inside m k ≡ true
+  pub corner : inside (pos (natAbs m)) k ≡ true
   pub depth : inside (pos 4095) m ≡ true
 
 -- how many entries the list has
 abbrev pub size : ℕ → ℕ
 size B = B + B + B / 2 + 7
 
-module _ {B a d most : ℕ} {filter smooth : Bool} {m k : ℤ} {es : List ℤ} (g : OneEdge B a d most filter smooth m k es) where
+module _ {B a st lim : ℕ} {m k : ℤ} {es : List ℤ} (g : OneEdge B a st lim m k es) where
   abbrev e : ℕ → ℤ
-  e = ready filter smooth (B + B) d (B + B) B most (edge k es)
-
-  abbrev st : ℕ
-  st = strength filter smooth (B + B) d
-
-  abbrev lim : ℕ
-  lim = limit (B + B) B most
+  e = filtered st lim (B + B) (edge k es)
 
   pub samples : Edge 4095 (B + B) es
   samples = edge-sample m (g .depth) (B + B) es (g .entries)
@@ -59,12 +52,11 @@ module _ {B a d most : ℕ} {filter smooth : Bool} {m k : ℤ} {es : List ℤ} (
 
   last : inside (pos (natAbs m)) (e (B + B)) ≡ true
   last =
-      filtered-inside (natAbs m) (B + B) st lim k es (B + B) (strength-most filter smooth (B + B) d) (g .entries)
-      (in-most m (g .depth) k (g .corner)) (omega arith)
+      filtered-inside (natAbs m) (B + B) st lim k es (B + B) (g .gentle) (g .entries) (g .corner) (omega arith)
 
   module _ (zs xs : List ℤ) (q : xs ≡ filled (size B) (padded 4 (B + B) e) zs) where
     pub holds-samples : Edge 4095 (size B) xs
-    holds-samples = ready-inside 4095 (B + B) st lim (size B) k es zs xs (strength-most filter smooth (B + B) d) samples corner-in q
+    holds-samples = ready-inside 4095 (B + B) st lim (size B) k es zs xs (g .gentle) samples corner-in q
 
     module _ (lum : Bool) (M : ℤ) (t : ℕ) (out : List Float) (x : M ≡ m) (p : t ≡ step a) where
       pub by-rows : block B B (ahead lum M t xs) out ≡ block B B (zone1 lum m (B + B) (step a) e) out

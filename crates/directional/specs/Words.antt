@@ -5,13 +5,13 @@ use lib.Dec.{leb}
 use lib.IntN.{ℤ, pos, natAbs}
 use Rattle.numbers.specs.Depth.{most}
 use Rattle.numbers.specs.Dir.{dirOf, angleOf, deltaOf, isDir, isDelta}
-use Rattle.numbers.specs.Flag.{isSet, noStray}
+use Rattle.numbers.specs.Flag.{noStray, flagsOf}
 use Rattle.numbers.specs.declared.dir.Dir.{Dir}
 use Rattle.numbers.specs.declared.dir.FoundDir.{FoundDir}
 use Rattle.numbers.specs.declared.dir.FoundDir.the-variants.{Is, NoDir}
 use Rattle.numbers.specs.declared.flag.Flags.{Flags}
-use Rattle.numbers.specs.declared.flag.Flag.the-variants.{Above, Left, Luma, EdgeFilter, SmoothNeighbour}
 use Rattle.calls.specs.Direct.{Predictor}
+use Rattle.setting.specs.declared.Setting.{Setting}
 use Rattle.directional.specs.Directional.{directionalAt}
 
 -- refusal 3: "direction above 7, delta word above 6, a stray flag bit"
@@ -27,14 +27,20 @@ angleFrom NoDir delta = 0
 unfoldable pub limitOf : ℕ → ℕ → ℕ
 limitOf B word = cond (leb 1 word) word B
 
+-- what a direction is set to, at B, by its angle, its flags and the words max-width and max-height
+abbrev pub settingOf : ℕ → ℕ → Flags → ℕ → ℕ → Setting
+settingOf B angle f wide high = record {
+  angle = angle;
+  flags = f;
+  «max_width» = limitOf B wide;
+  «max_height» = limitOf B high;
+}
+
 -- the predictor of a direction with its delta, at depth D
 abbrev pub turnedBy : ℕ → Dir → ℤ → Flags → ℕ → ℕ → Predictor
-turnedBy D dir delta f wide high B above left k =
-    directionalAt B B (pos (most D)) (f .above) (f .left) (f .luma) (f .«edge_filter») (f .«smooth_neighbour»)
-    (limitOf B wide) (limitOf B high) (natAbs (angleOf dir delta)) above left k
+turnedBy D dir delta f wide high B = directionalAt B B (pos (most D)) (settingOf B (natAbs (angleOf dir delta)) f wide high)
 
 -- the predictor that the words name, at depth D
 abbrev pub directed : ℕ → ℕ → ℕ → ℕ → ℕ → ℕ → Predictor
-directed D direction delta flags wide high B above left k =
-    directionalAt B B (pos (most D)) (isSet Above flags) (isSet Left flags) (isSet Luma flags) (isSet EdgeFilter flags) (isSet SmoothNeighbour flags)
-    (limitOf B wide) (limitOf B high) (angleFrom (dirOf direction) delta) above left k
+directed D direction delta flags wide high B =
+    directionalAt B B (pos (most D)) (settingOf B (angleFrom (dirOf direction) delta) (flagsOf flags) wide high)

@@ -1,13 +1,12 @@
 // Directions (document 01, Directions). The public call takes any input, and tests the refusals 1, 2, 3, 9, 8 in that order.
-pub mod choice;
-pub mod copies;
-pub mod ready;
-pub mod steps;
+mod choice;
+mod copies;
+mod ready;
 pub mod turned;
-pub mod words;
-pub mod zone1;
-pub mod zone2;
-pub mod zone3;
+mod words;
+mod zone1;
+mod zone2;
+mod zone3;
 
 use numbers::answer::Answer;
 ghost use Rattle.calls.specs.Direct.{PredictedBy};

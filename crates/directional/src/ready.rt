@@ -1,4 +1,5 @@
-// An edge made ready for its zone: its list, with the filter of its strength.
+// The edges made ready for their zone: each as a list, filtered as the direction is set. `pad` is room to work in.
+use setting::Setting;
 ghost use mathlib.Core.Path.{_≡_};
 ghost use mathlib.Core.Bool.{true};
 ghost use Prim.Native.Nat.{_+_, _≤_, _<_};
@@ -6,28 +7,45 @@ ghost use lib.IntN.{pos};
 ghost use lib.ListN.{length};
 ghost use Rattle.zint.specs.Range.{inside, Edge};
 ghost use Rattle.lists.specs.Fill.{filled};
-ghost use Rattle.filter.specs.Filter.{edge as edgeOf, padded};
-ghost use Rattle.zones.specs.Zones.{ready as readyOf};
+ghost use Rattle.filter.specs.Filter.{padded};
+ghost use Rattle.directional.specs.AtAngle.{aboveReady, leftReady};
 
-// n entries along a side of the block, at d degrees from the edge's axis; `pad` is room to work in.
-pub fn ready(
-    filter: bool,
-    smooth: bool,
-    wh: usize,
-    d: usize,
+// n entries above.
+pub fn above_list(
+    bs: usize,
+    set: Setting,
     n: usize,
-    side: usize,
-    most: usize,
     size: usize,
+    above: &[i32],
     corner: i32,
-    edge: &[i32],
     pad: &mut [i32],
     list: &mut [i32],
 )
-    requires { ⌜ (0 < n) × (n ≤ 128) × (side ≤ n) × (most ≤ 65535) × (n ≤ length (now edge)) × (n + 7 ≤ size) × (size ≤ length (now pad)) × (size ≤ length (now list)) ⌝ }
-    requires { ⌜ Edge 4095 n (now edge) × (inside (pos 4095) corner ≡ true) ⌝ }
-    ensures { λ _. ⌜ now (list .exit) ≡ filled size (padded 4 n (readyOf filter smooth wh d n side most (edgeOf corner (now (edge .entry))))) (now (list .entry)) ⌝ }
+    requires { ⌜ (0 < bs) × (bs ≤ n) × (n ≤ 128) × (n ≤ length (now above)) × (n + 7 ≤ size) × (size ≤ length (now pad)) × (size ≤ length (now list)) ⌝ }
+    requires { ⌜ Edge 4095 n (now above) × (inside (pos 4095) corner ≡ true) ⌝ }
+    ensures { λ _. ⌜ now (list .exit) ≡ filled size (padded 4 n (aboveReady bs bs set n (now (above .entry)) corner)) (now (list .entry)) ⌝ }
 {
-    let s = filter::strength::filter_strength(filter, smooth, wh, d);
-    filter::edge::ready_edge(corner, edge, s, n + 1 + most - side, n, size, pad, list);
+    let s = set.strength_above(bs + bs);
+    let lim = set.limit_above(n, bs);
+    filter::edge::ready_edge(corner, above, s, lim, n, size, pad, list);
+}
+
+// n entries at the left.
+pub fn left_list(
+    bs: usize,
+    set: Setting,
+    n: usize,
+    size: usize,
+    left: &[i32],
+    corner: i32,
+    pad: &mut [i32],
+    list: &mut [i32],
+)
+    requires { ⌜ (0 < bs) × (bs ≤ n) × (n ≤ 128) × (n ≤ length (now left)) × (n + 7 ≤ size) × (size ≤ length (now pad)) × (size ≤ length (now list)) ⌝ }
+    requires { ⌜ Edge 4095 n (now left) × (inside (pos 4095) corner ≡ true) ⌝ }
+    ensures { λ _. ⌜ now (list .exit) ≡ filled size (padded 4 n (leftReady bs bs set n (now (left .entry)) corner)) (now (list .entry)) ⌝ }
+{
+    let s = set.strength_left(bs + bs);
+    let lim = set.limit_left(n, bs);
+    filter::edge::ready_edge(corner, left, s, lim, n, size, pad, list);
 }

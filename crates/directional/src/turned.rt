@@ -4,31 +4,45 @@ use numbers::depth::Depth;
 use numbers::depth::FoundDepth;
 use numbers::dir::Dir;
 use numbers::flag::Flags;
+use setting::Setting;
 ghost use mathlib.Core.Path.{_≡_};
 ghost use mathlib.Core.Bool.{true};
-ghost use Prim.Native.Nat.{_*_, _≤_};
-ghost use lib.IntN.{pos, natAbs};
+ghost use Prim.Native.Nat.{_≤_};
+ghost use lib.IntN.{natAbs};
 ghost use lib.ListN.{length};
-ghost use Rattle.numbers.specs.Size.{isSize};
 ghost use Rattle.numbers.specs.Depth.{isDepth, most};
-ghost use Rattle.zint.specs.Range.{inside, Edge};
+ghost use Rattle.numbers.specs.Dir.{angleOf};
 ghost use Rattle.lists.specs.Block.{block};
-ghost use Rattle.directional.specs.Words.{limitOf, turnedBy};
+ghost use Rattle.calls.specs.Given.{Given};
+ghost use Rattle.directional.specs.Words.{limitOf, settingOf, turnedBy};
 
 // "Max-width or max-height 0 stands for B."
-fn limit_of(b: u16, word: u16) -> usize
+fn limit_of(b: u16, word: u16) -> u16
     ensures { λ r. ⌜ r ≡ limitOf b word ⌝ }
 {
-    if word > 0 { word as usize } else { b as usize }
+    if word > 0 { word } else { b }
 }
 
-// The block, in out[..b * b]. wide and high are the words max-width and max-height.
+// What the direction is set to. wide and high are the words max-width and max-height.
+fn setting_of(b: u16, dir: Dir, delta: i32, flags: Flags, wide: u16, high: u16) -> Setting
+    requires { ⌜ natAbs delta ≤ 3 ⌝ }
+    ensures { λ r. ⌜ r ≡ settingOf b (natAbs (angleOf dir delta)) flags wide high ⌝ }
+{
+    Setting {
+        angle: dir.turned(delta),
+        flags: flags,
+        max_width: limit_of(b, wide),
+        max_height: limit_of(b, high),
+    }
+}
+
+// The block, in out[..b * b].
 pub fn turned_into(
     b: u16,
     d: u16,
     dir: Dir,
     delta: i32,
-    f: Flags,
+    flags: Flags,
     wide: u16,
     high: u16,
     above: &[i32],
@@ -36,27 +50,12 @@ pub fn turned_into(
     corner: i32,
     out: &mut [f32],
 )
-    requires { ⌜ (isSize b ≡ true) × (isDepth d ≡ true) × (natAbs delta ≤ 3) × (2 * b ≤ length (now above)) × (2 * b ≤ length (now left)) × (b * b ≤ length (now out)) ⌝ }
-    requires { ⌜ Edge (most d) (2 * b) (now above) × Edge (most d) (2 * b) (now left) × (inside (pos (most d)) corner ≡ true) ⌝ }
-    ensures { λ _. ⌜ now (out .exit) ≡ block b b (turnedBy d dir delta f wide high b (now (above .entry)) (now (left .entry)) corner) (now (out .entry)) ⌝ }
+    requires { ⌜ (isDepth d ≡ true) × (natAbs delta ≤ 3) × Given b (most d) (now above) (now left) corner (length (now out)) ⌝ }
+    ensures { λ _. ⌜ now (out .exit) ≡ block b b (turnedBy d dir delta flags wide high b (now (above .entry)) (now (left .entry)) corner) (now (out .entry)) ⌝ }
 {
     let FoundDepth::Is(depth) = Depth::of(d) else {
         return;
     };
-    choice::directional_into(
-        b as usize,
-        dir.turned(delta),
-        f.above,
-        f.left,
-        f.luma,
-        f.edge_filter,
-        f.smooth_neighbour,
-        limit_of(b, wide),
-        limit_of(b, high),
-        depth.max(),
-        above,
-        left,
-        corner,
-        out,
-    );
+    let set = setting_of(b, dir, delta, flags, wide, high);
+    choice::directional_into(b as usize, set, depth.max(), above, left, corner, out);
 }

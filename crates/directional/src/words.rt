@@ -5,13 +5,10 @@ use numbers::dir::FoundDir;
 use numbers::flag::Flags;
 ghost use mathlib.Core.Path.{_≡_};
 ghost use mathlib.Core.Bool.{true};
-ghost use Prim.Native.Nat.{_*_, _≤_};
-ghost use lib.IntN.{pos};
 ghost use lib.ListN.{length};
-ghost use Rattle.numbers.specs.Size.{isSize};
 ghost use Rattle.numbers.specs.Depth.{isDepth, most};
-ghost use Rattle.zint.specs.Range.{inside, Edge};
 ghost use Rattle.lists.specs.Block.{block};
+ghost use Rattle.calls.specs.Given.{Given};
 ghost use Rattle.directional.specs.Words.{isNamed, directed};
 
 // Refusal 3: whether the words name a direction.
@@ -41,8 +38,7 @@ pub fn directed_into(
     corner: i32,
     out: &mut [f32],
 )
-    requires { ⌜ (isSize b ≡ true) × (isDepth d ≡ true) × (isNamed direction delta flags ≡ true) × (2 * b ≤ length (now above)) × (2 * b ≤ length (now left)) × (b * b ≤ length (now out)) ⌝ }
-    requires { ⌜ Edge (most d) (2 * b) (now above) × Edge (most d) (2 * b) (now left) × (inside (pos (most d)) corner ≡ true) ⌝ }
+    requires { ⌜ (isDepth d ≡ true) × (isNamed direction delta flags ≡ true) × Given b (most d) (now above) (now left) corner (length (now out)) ⌝ }
     ensures { λ _. ⌜ now (out .exit) ≡ block b b (directed d direction delta flags wide high b (now (above .entry)) (now (left .entry)) corner) (now (out .entry)) ⌝ }
 {
     let FoundDir::Is(dir) = Dir::of(direction) else {

@@ -1,6 +1,7 @@
 // Zone 1: along the edge above.
 use crate::ready;
-use crate::steps;
+use setting::Setting;
+use setting::steps;
 ghost use mathlib.Core.Path.{_≡_};
 ghost use mathlib.Core.Bool.{true};
 ghost use Prim.Native.Nat.{_+_, _*_, _≤_, _<_};
@@ -9,16 +10,12 @@ ghost use lib.ListN.{length};
 ghost use Rattle.zint.specs.Range.{inside, Edge};
 ghost use Rattle.lists.specs.Block.{block};
 ghost use Rattle.zones.specs.Listed.{Fours};
-ghost use Rattle.zones.specs.Zones.{z1At};
+ghost use Rattle.directional.specs.AtAngle.{z1At};
 
 // With room for the edge's lists.
 fn z1_with(
     bs: usize,
-    angle: usize,
-    lum: bool,
-    filter: bool,
-    smooth: bool,
-    most: usize,
+    set: Setting,
     m: i32,
     above: &[i32],
     corner: i32,
@@ -26,61 +23,25 @@ fn z1_with(
     list: &mut [i32],
     out: &mut [f32],
 )
-    requires { ⌜ Fours bs × (36 ≤ angle) × (angle < 90) × (most ≤ 65535) × (bs + bs ≤ length (now above)) × (bs * bs ≤ length (now out)) ⌝ }
-    requires { ⌜ (168 ≤ length (now pad)) × (168 ≤ length (now list)) × Edge (natAbs m) (bs + bs) (now above) × (inside m corner ≡ true) × (inside (pos 4095) m ≡ true) ⌝ }
-    ensures { λ _. ⌜ now (out .exit) ≡ block bs bs (z1At bs bs m lum filter smooth most angle (now (above .entry)) corner) (now (out .entry)) ⌝ }
+    requires { ⌜ Fours bs × (36 ≤ set .angle) × (set .angle < 90) × (bs + bs ≤ length (now above)) × (bs * bs ≤ length (now out)) ⌝ }
+    requires { ⌜ (168 ≤ length (now pad)) × (168 ≤ length (now list)) × Edge (natAbs m) (bs + bs) (now above) × (inside (pos (natAbs m)) corner ≡ true) × (inside (pos 4095) m ≡ true) ⌝ }
+    ensures { λ _. ⌜ now (out .exit) ≡ block bs bs (z1At bs bs m set (now (above .entry)) corner) (now (out .entry)) ⌝ }
 {
     let n = bs + bs;
     let size = n + bs / 2 + 7;
-    let step = steps::step_of(angle);
-    ready::ready(
-        filter,
-        smooth,
-        n,
-        90 - angle,
-        n,
-        bs,
-        most,
-        size,
-        corner,
-        above,
-        pad,
-        list,
-    );
-    zones::rows::z1_rows(bs, bs, lum, step, m, list, out);
+    ready::above_list(bs, set, n, size, above, corner, pad, list);
+    let f = set.flags;
+    let step = steps::step_of(set.angle);
+    zones::rows::z1_rows(bs, bs, f.luma, step, m, list, out);
 }
 
 // A block, in out[..bs * bs].
-pub fn z1_into(
-    bs: usize,
-    angle: usize,
-    lum: bool,
-    filter: bool,
-    smooth: bool,
-    most: usize,
-    m: i32,
-    above: &[i32],
-    corner: i32,
-    out: &mut [f32],
-)
-    requires { ⌜ Fours bs × (36 ≤ angle) × (angle < 90) × (most ≤ 65535) × (bs + bs ≤ length (now above)) × (bs * bs ≤ length (now out)) ⌝ }
-    requires { ⌜ Edge (natAbs m) (bs + bs) (now above) × (inside m corner ≡ true) × (inside (pos 4095) m ≡ true) ⌝ }
-    ensures { λ _. ⌜ now (out .exit) ≡ block bs bs (z1At bs bs m lum filter smooth most angle (now (above .entry)) corner) (now (out .entry)) ⌝ }
+pub fn z1_into(bs: usize, set: Setting, m: i32, above: &[i32], corner: i32, out: &mut [f32])
+    requires { ⌜ Fours bs × (36 ≤ set .angle) × (set .angle < 90) × (bs + bs ≤ length (now above)) × (bs * bs ≤ length (now out)) ⌝ }
+    requires { ⌜ Edge (natAbs m) (bs + bs) (now above) × (inside (pos (natAbs m)) corner ≡ true) × (inside (pos 4095) m ≡ true) ⌝ }
+    ensures { λ _. ⌜ now (out .exit) ≡ block bs bs (z1At bs bs m set (now (above .entry)) corner) (now (out .entry)) ⌝ }
 {
     let mut pad = [0i32; 168];
     let mut list = [0i32; 168];
-    z1_with(
-        bs,
-        angle,
-        lum,
-        filter,
-        smooth,
-        most,
-        m,
-        above,
-        corner,
-        &mut pad,
-        &mut list,
-        out,
-    );
+    z1_with(bs, set, m, above, corner, &mut pad, &mut list, out);
 }

@@ -1,7 +1,7 @@
 -- "Kernels: 0 4 8 4 0; 0 5 6 5 0; 2 4 4 4 2; then + 8, >> 4, ends repeated, limits as in `filter_edge`." (document 01, Directions)
 -- An edge is a function of the place: 0 the corner, then its entries 0, 1, .. at the places 1, 2, ..; n is its last place.
 use Prim.Native.Nat.{ℕ, zero, suc, _+_, _-_, _≤_, min}
-use mathlib.Core.Bool.{Bool, cond, _&&_}
+use mathlib.Core.Bool.{cond, _&&_}
 use mathlib.Core.List.{List, [], _∷_}
 use lib.Dec.{leb, ltb}
 use lib.ListN.{getD}
@@ -43,15 +43,6 @@ blurred s n e i = five (kernel s 0) (kernel s 1) (kernel s 2) (kernel s 3) (kern
 -- "limits as in `filter_edge`": the places 1 <= i < lim are filtered, and none by the strength 0
 unfoldable pub filtered : ℕ → ℕ → ℕ → (ℕ → ℤ) → ℕ → ℤ
 filtered s lim n e i = cond (leb 1 s && (leb 1 i && ltb i lim)) (blurred s n e i) (e i)
-
--- the limit of an edge with the last place n, along a side of the block: `most` is max-width or max-height
-abbrev pub limit : ℕ → ℕ → ℕ → ℕ
-limit n side most = n + 1 + most - side
-
--- "(5 left0 + 6 k + 5 above0 + 8) >> 4, when the edge filter is set and 2B >= 24, whichever neighbour is there"
-unfoldable pub cornerOf : Bool → ℕ → ℤ → ℤ → ℤ → ℤ
-cornerOf filter wh left0 k above0 =
-    cond (filter && leb 24 wh) (shrZ (pos 5 *ℤ left0 +ℤ pos 6 *ℤ k +ℤ pos 5 *ℤ above0 +ℤ pos 8) 16) k
 
 -- what the code's steps ask of their kernel
 pub record Five (k0 k1 k2 k3 k4 : ℤ) : Type 0 where

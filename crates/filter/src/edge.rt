@@ -8,7 +8,7 @@ ghost use lib.ListN.{length};
 ghost use lib.IntN.{pos};
 ghost use Rattle.zint.specs.Range.{inside, Edge};
 ghost use Rattle.lists.specs.Fill.{tab, filled};
-ghost use Rattle.filter.specs.Filter.{edge as edgeOf, padded, filtered, cornerOf};
+ghost use Rattle.filter.specs.Filter.{edge as edgeOf, padded, filtered};
 ghost use Rattle.filter.specs.Padded.{place, Ends};
 
 // The corner, the edge's entries and the last of them on to `size`.
@@ -71,17 +71,5 @@ pub fn ready_edge(
     } else {
         pad_edge(corner, edge, n, size, pad);
         filter_edge(s, lim, n, size, pad, list);
-    }
-}
-
-// The corner that zone 2 takes.
-pub fn corner_of(filter: bool, wh: usize, left0: i32, corner: i32, above0: i32) -> i32
-    requires { ⌜ (inside (pos 4095) left0 ≡ true) × (inside (pos 4095) corner ≡ true) × (inside (pos 4095) above0 ≡ true) ⌝ }
-    ensures { λ r. ⌜ r ≡ cornerOf filter wh left0 corner above0 ⌝ }
-{
-    if filter && wh >= 24 {
-        (5 * left0 + 6 * corner + 5 * above0 + 8) >> 4
-    } else {
-        corner
     }
 }

@@ -1,5 +1,4 @@
-// The edge filter of directions (document 01, Directions): its strength, and an edge as a list with its ends repeated, filtered.
+// The edge filter of directions (document 01, Directions): an edge as a list with its ends repeated, filtered.
 pub mod edge;
-pub mod kernels;
-pub mod part;
-pub mod strength;
+mod kernels;
+mod part;

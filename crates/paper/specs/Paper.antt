@@ -37,7 +37,12 @@ alone base = record {
 
 -- a direction at an angle, of chroma, without a filter, at B 4 and D 8, with both neighbours there: the sample at row r and column c
 abbrev chroma4 : ℕ → List ℤ → List ℤ → ℤ → ℕ → ℕ → ℤ
-chroma4 angle above left k = directionalAt 4 4 (pos 255) true true false false false 4 4 angle above left k
+chroma4 angle = directionalAt 4 4 (pos 255) record {
+  angle = angle;
+  flags = record { above = true; left = true; luma = false; «edge_filter» = false; «smooth_neighbour» = false };
+  «max_width» = 4;
+  «max_height» = 4;
+}
 
 -- eight entries from n on
 abbrev from : ℕ → List ℤ

@@ -2,12 +2,10 @@
 use mathlib.Core.Path.{_≡_, refl, sym, _∙_, ap, subst}
 use mathlib.Core.Bool.{Bool, true, false, cond}
 use mathlib.Core.List.{List}
-use Prim.Native.Nat.{ℕ, _*_, _≤_}
+use Prim.Native.Nat.{ℕ, _≤_}
 use lib.Dec.{eqb}
 use lib.IntN.{ℤ, pos, natAbs}
 use lib.Ieee.{Float}
-use lib.ListN.{length}
-use Rattle.numbers.specs.Size.{isSize}
 use Rattle.numbers.specs.Depth.{isDepth, most}
 use Rattle.numbers.specs.Dir.{dirOf, isDelta, deltaOf}
 use Rattle.numbers.specs.Flag.{noStray}
@@ -18,11 +16,10 @@ use Rattle.numbers.specs.declared.mode.Mode.{Mode}
 use Rattle.numbers.specs.declared.mode.Mode.the-variants.{Directional}
 use Rattle.numbers.specs.declared.word.Word.the-variants.{ModeWord, DirectionWord, DeltaWord, FlagWord}
 use Rattle.numbers.proofs.Angle.{delta-small}
-use Rattle.zint.specs.Range.{inside, Edge}
 use Rattle.lists.specs.Block.{block}
+use Rattle.calls.specs.Given.{Given}
 use Rattle.calls.proofs.Accepted.{depth-most}
 use Rattle.calls.proofs.Given.{given-more}
-use Rattle.calls.specs.Given.{Given}
 use Rattle.smooth.proofs.Ready.{no-corner}
 use Rattle.job.specs.Row.{Row, word}
 use Rattle.numbers.specs.Mode.{directedMode, namedMode}
@@ -66,8 +63,8 @@ module _ {job : Job} {above left : List ℤ} {k : ℤ} {n : ℕ} (g : Ready job 
   abbrev B : ℕ
   B = job .spec .b
 
-  pub paeth-asks : Given B 4095 above left k n
-  paeth-asks = given-more (depth-most (job .spec .d) (g .depth)) (record {
+  given : Given B (most (job .spec .d)) above left k n
+  given = record {
     size = g .size;
     above-long = g .above-long;
     left-long = g .left-long;
@@ -75,7 +72,10 @@ module _ {job : Job} {above left : List ℤ} {k : ℤ} {n : ℕ} (g : Ready job 
     above-in = g .above-in;
     left-in = g .left-in;
     corner-in = g .corner-in;
-  })
+  }
+
+  pub paeth-asks : Given B 4095 above left k n
+  paeth-asks = given-more (depth-most (job .spec .d) (g .depth)) given
 
   pub smooth-asks : Given B 4095 above left (pos 0) n
   smooth-asks = no-corner paeth-asks
@@ -88,7 +88,5 @@ block-is job mode above left k out after e r = r ∙ ap (λ m. block (job .spec 
 
 -- what a direction asks
 pub turned-asks : {job : Job} {above left : List ℤ} {k : ℤ} {n : ℕ} → Ready job above left k n → (dir : Dir) (delta : ℤ) → job .mode ≡ Directional dir delta
-    → ((isSize (job .spec .b) ≡ true) × (isDepth (job .spec .d) ≡ true) × (natAbs delta ≤ 3) × (2 * job .spec .b ≤ length above) × (2 * job .spec .b ≤ length left) × (job .spec .b * job .spec .b ≤ n))
-    × (Edge (most (job .spec .d)) (2 * job .spec .b) above × Edge (most (job .spec .d)) (2 * job .spec .b) left × (inside (pos (most (job .spec .d))) k ≡ true))
-turned-asks g dir delta e =
-    ((g .size, g .depth, subst (λ m. Turns m) e (g .turns), g .above-long, g .left-long, g .out-long), (g .above-in, g .left-in, g .corner-in))
+    → (isDepth (job .spec .d) ≡ true) × (natAbs delta ≤ 3) × Given (job .spec .b) (most (job .spec .d)) above left k n
+turned-asks g dir delta e = (g .depth, subst (λ m. Turns m) e (g .turns), given g)

@@ -1,5 +1,4 @@
 -- The zones of the directions, from document 01.
-pub mod Steps
 pub mod Zones
 pub mod Split
 pub mod Listed

@@ -10,6 +10,7 @@ use Rattle.numbers.proofs.Named.{done-is}
 use Rattle.ladder.proofs.Promise.{refused, finished}
 use Rattle.calls.specs.Direct.{directAnswer}
 use Rattle.calls.proofs.Accepted.{Accepted, accepted}
+use Rattle.calls.proofs.Given.{given}
 use Rattle.directional.specs.Words.{isNamed}
 use Rattle.directional.proofs.directional.Statement.{statement}
 use Rattle.directional.proofs.directional.Tie as tie
@@ -48,10 +49,7 @@ directed-into-requires : tie.Need-directed-into-requires
 directed-into-requires c κs =
     let g = granted (c .before) in
     let s = s (c .before .before) in
-    simp (toZ-ofZ, s .fits .corner) (
-      (g .size, g .depth, g .mode, g .above-long, g .left-long, g .out-long),
-      (g .above-in, g .left-in, g .corner-in),
-    )
+    simp (toZ-ofZ, s .fits .corner) (g .depth, g .mode, given g)
 
 same-length : tie.Need-same-length
 same-length c = search needs

@@ -1,18 +1,19 @@
 -- `directed_into` meets its contract: the words' direction, delta and flags are the definition's. Assumes nothing.
+use borrow.Author.Needs.{needs}
 use mathlib.Core.Path.{_≡_, sym, _∙_, ap}
 use mathlib.Core.Bool.{true, true≢false}
 use lib.IntN.{pos, natAbs}
 use mir.Syntax.{w32}
 use mir.Val.{toZ, ofZ}
 use mir.Facts.{toZ-ofZ}
-use borrow.Author.Needs.{needs, sfits-of}
+use borrow.Author.Needs.{sfits-of}
 use Rattle.numbers.specs.Depth.{most}
 use Rattle.numbers.specs.Dir.{isDir, isDelta, deltaOf, angleOf, dirOf}
 use Rattle.numbers.proofs.Agree.{dir-no}
 use Rattle.numbers.proofs.Angle.{delta-small}
 use Rattle.zint.proofs.Bound.{back}
 use Rattle.lists.specs.Block.{block}
-use Rattle.directional.specs.Words.{angleFrom, limitOf}
+use Rattle.directional.specs.Words.{angleFrom, settingOf}
 use Rattle.directional.specs.Directional.{directionalAt}
 use Rattle.directional.proofs.Named.{named-all}
 use Rattle.directional.proofs.words.directed_into.Statement.{statement}
@@ -24,7 +25,7 @@ module _ (f : tie.After-dir) where
   t = f .before .before .before .before
 
   names : (isDir (t .args .direction) ≡ true) × (isDelta (t .args .delta) ≡ true)
-  names = named-all (t .args .direction) (t .args .delta) (t .args .flags) (t .pre .0 .2)
+  names = named-all (t .args .direction) (t .args .delta) (t .args .flags) (t .pre .1)
 
 -- where the delta is known
 module _ (d : tie.After-delta) where
@@ -49,7 +50,7 @@ enum-told : tie.Need-enum-told
 enum-told c = search needs
 
 returns : tie.Need-returns
-returns c = absurd (true≢false (sym (named-all _ _ _ (c .before .before .before .before .pre .0 .2) .0) ∙ dir-no _ (sym (c .before .before .of .ensures) ∙ c .enum-told .given .1)))
+returns c = absurd (true≢false (sym (named-all _ _ _ (c .before .before .before .before .pre .1) .0) ∙ dir-no _ (sym (c .before .before .of .ensures) ∙ c .enum-told .given .1)))
 
 delta-requires : tie.Need-delta-requires
 delta-requires c κs = names (c .before) .1
@@ -61,10 +62,7 @@ turned-into-requires : tie.Need-turned-into-requires
 turned-into-requires c κs =
     let d = c .before .before in
     let s = t (found d) in
-    simp (delta-is d, toZ-ofZ, s .fits .corner) (
-      (s .pre .0 .0, s .pre .0 .1, delta-small (s .args .delta) (names (found d) .1), s .pre .0 .3, s .pre .0 .4, s .pre .0 .5),
-      s .pre .1,
-    )
+    simp (delta-is d, toZ-ofZ, s .fits .corner) (s .pre .0, delta-small (s .args .delta) (names (found d) .1), s .pre .2)
 
 same-length : tie.Need-same-length
 same-length c = search needs
@@ -77,7 +75,7 @@ returns-2 c =
     let s = t (found d) in
     let B = s .args .b in
     e .turned-into .ensures
-    ∙ (λ j. block B B (directionalAt B B (pos (most (s .args .d))) (v .of2 .ensures j .above) (v .of2 .ensures j .left) (v .of2 .ensures j .luma) (v .of2 .ensures j .«edge_filter») (v .of2 .ensures j .«smooth_neighbour») (limitOf B (s .args .wide)) (limitOf B (s .args .high)) (angle-is d j) (s .args .above .now) (s .args .left .now) (toZ-ofZ (s .fits .corner) j)) (s .args .out .now))
+    ∙ (λ j. block B B (directionalAt B B (pos (most (s .args .d))) (settingOf B (angle-is d j) (v .of2 .ensures j) (s .args .wide) (s .args .high)) (s .args .above .now) (s .args .left .now) (toZ-ofZ (s .fits .corner) j)) (s .args .out .now))
 
 pub directed-into-spec : {M : Type 1} → statement M
 directed-into-spec =

@@ -14,10 +14,7 @@ slice-aggregate-z1-with-2 c = search needs
 z1-with-requires : tie.Need-z1-with-requires
 z1-with-requires c κs =
     let s = c .before .before .before .before in
-    simp (toZ-ofZ, s .fits .m, s .fits .corner) (
-      (s .pre .0 .0, s .pre .0 .1, s .pre .0 .2, s .pre .0 .3, s .pre .0 .4, s .pre .0 .5),
-      (omega arith, omega arith, s .pre .1 .0, s .pre .1 .1, s .pre .1 .2),
-    )
+    simp (toZ-ofZ, s .fits .m, s .fits .corner) (s .pre .0, (omega arith, omega arith, s .pre .1 .0, s .pre .1 .1, s .pre .1 .2))
 
 same-length : tie.Need-same-length
 same-length c = search needs

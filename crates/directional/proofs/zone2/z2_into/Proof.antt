@@ -13,9 +13,9 @@ use Rattle.zint.specs.Range.{inside}
 use Rattle.zint.proofs.Bound.{back-abs}
 use Rattle.zint.proofs.Range.{inside-abs}
 use Rattle.lists.specs.Block.{block}
-use Rattle.filter.specs.Filter.{cornerOf}
-use Rattle.filter.proofs.Corner.{corner-inside}
-use Rattle.zones.specs.Zones.{z2From}
+use Rattle.setting.specs.Corner.{cornerOf}
+use Rattle.setting.proofs.Samples.{corner-inside}
+use Rattle.directional.specs.AtAngle.{z2From}
 use Rattle.directional.proofs.zone2.z2_into.Statement.{statement}
 use Rattle.directional.proofs.zone2.z2_into.Tie as tie
 
@@ -42,16 +42,16 @@ module _ (s : tie.Start) where
 -- the corner
 module _ (v : tie.After-corner-of) where
   abbrev s : tie.Start
-  s = v .before .before .before .before
+  s = v .before .before .before .before .before
 
   abbrev K : ℤ
-  K = cornerOf (s .args .filter) (s .args .bs + s .args .bs) (l s) (s .args .corner) (a s)
+  K = cornerOf (s .args .set .flags .«edge_filter») (s .args .bs + s .args .bs) (l s) (s .args .corner) (a s)
 
   is : v .corner-of .result ≡ K
   is = simp (toZ-ofZ, s .fits .corner, l-back s, a-back s) at (v .corner-of .ensures)
 
   K-in : inside (pos 4095) K ≡ true
-  K-in = corner-inside 4095 (s .args .filter) (s .args .bs + s .args .bs) (l s) (s .args .corner) (a s) (l-in s) (s .pre .1 .2) (a-in s)
+  K-in = corner-inside 4095 (s .args .set .flags .«edge_filter») (s .args .bs + s .args .bs) (l s) (s .args .corner) (a s) (l-in s) (s .pre .1 .2) (a-in s)
 
   back : toZ w32 (ofZ w32 (v .corner-of .result)) ≡ K
   back = ap (λ z. toZ w32 (ofZ w32 z)) is ∙ back-abs w32 K (omega (arith, inside-abs 4095 K K-in))
@@ -67,7 +67,7 @@ shared-slice-copy-out-corner-of-2 c = search needs
 
 corner-of-requires : tie.Need-corner-of-requires
 corner-of-requires c κs =
-    let s = c .before .before .before in
+    let s = c .before .before .before .before in
     simp (toZ-ofZ, s .fits .corner, l-back s, a-back s) (l-in s, s .pre .1 .2, a-in s)
 
 slice-aggregate-z2-with : tie.Need-slice-aggregate-z2-with
@@ -86,10 +86,7 @@ z2-with-requires : tie.Need-z2-with-requires
 z2-with-requires c κs =
     let v = c .before .before .before .before .before in
     let s = s v in
-    simp (toZ-ofZ, s .fits .m, back v) (
-      (s .pre .0 .0, s .pre .0 .1, s .pre .0 .2, s .pre .0 .3, s .pre .0 .4, s .pre .0 .5, s .pre .0 .6, s .pre .0 .7),
-      ((omega arith, omega arith, omega arith, omega arith), (s .pre .1 .0, s .pre .1 .1, K-in v, s .pre .1 .3)),
-    )
+    simp (toZ-ofZ, s .fits .m, back v) (s .pre .0, ((omega arith, omega arith, omega arith, omega arith), (s .pre .1 .0, s .pre .1 .1, K-in v, s .pre .1 .3)))
 
 same-length : tie.Need-same-length
 same-length c = search needs
@@ -100,7 +97,7 @@ returns c =
     let v = u .before .before .before .before .before .before in
     let s = s v in
     u .z2-with .ensures
-    ∙ (λ j. block (s .args .bs) (s .args .bs) (z2From (s .args .bs) (s .args .bs) (toZ-ofZ (s .fits .m) j) (s .args .lum) (s .args .up) (s .args .aside) (s .args .smooth) (s .args .wide) (s .args .high) (s .args .angle) (s .args .above .now) (s .args .left .now) (back v j)) (s .args .out .now))
+    ∙ (λ j. block (s .args .bs) (s .args .bs) (z2From (s .args .bs) (s .args .bs) (toZ-ofZ (s .fits .m) j) (s .args .set) (s .args .above .now) (s .args .left .now) (back v j)) (s .args .out .now))
 
 pub z2-into-spec : {M : Type 1} → statement M
 z2-into-spec =

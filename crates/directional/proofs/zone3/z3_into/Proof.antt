@@ -17,10 +17,7 @@ slice-aggregate-z3-with-3 c = search needs
 z3-with-requires : tie.Need-z3-with-requires
 z3-with-requires c κs =
     let s = c .before .before .before .before .before in
-    simp (toZ-ofZ, s .fits .m, s .fits .corner) (
-      (s .pre .0 .0, s .pre .0 .1, s .pre .0 .2, s .pre .0 .3, s .pre .0 .4, s .pre .0 .5),
-      (omega arith, omega arith, omega arith, s .pre .1 .0, s .pre .1 .1, s .pre .1 .2),
-    )
+    simp (toZ-ofZ, s .fits .m, s .fits .corner) (s .pre .0, (omega arith, omega arith, omega arith, s .pre .1 .0, s .pre .1 .1, s .pre .1 .2))
 
 same-length : tie.Need-same-length
 same-length c = search needs

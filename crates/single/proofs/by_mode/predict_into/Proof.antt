@@ -28,7 +28,7 @@ module _ (m : tie.After-mode) where
   delta = m .mode .given .0 .1 .0
 
   delta-back : toZ w32 (ofZ w32 delta) ≡ delta
-  delta-back = back-abs w32 delta (omega (arith, turned-asks (u .pre) (m .mode .given .0 .0) delta (m .mode .given .1) .0 .2))
+  delta-back = back-abs w32 delta (omega (arith, turned-asks (u .pre) (m .mode .given .0 .0) delta (m .mode .given .1) .1))
 
 cast-bs : tie.Need-cast-bs
 cast-bs c = search needs

@@ -1,0 +1,4 @@
+-- Laws of a direction's setting.
+pub mod Most
+pub mod Samples
+pub mod Table
