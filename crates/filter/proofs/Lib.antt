@@ -4,3 +4,4 @@ pub mod Padded
 pub mod Filtered
 pub mod Ready
 pub mod Parts
+pub mod Pieces

@@ -28,7 +28,7 @@ lend n k xs ys h l p =
     let u : length (take k ys) ≤ n = omega arith in
     (omega arith, λ i j. p i (omega arith))
 
-abbrev rest : ℕ → List ℤ → List ℤ
+abbrev pub rest : ℕ → List ℤ → List ℤ
 rest s xs = take (length xs - s) (drop s xs)
 
 module _ (n : ℕ) (xs : List ℤ) (h : Ends n xs) where

@@ -1,17 +1,11 @@
 -- `filter_edge` meets its contract: the corner, the places, the last of them. Assumes nothing.
 use borrow.Author.Needs.{needs}
 use native.Mathlib.Omega.{arith}
-use mathlib.Core.Path.{sym, _∙_, ap}
-use mathlib.Core.List.{List}
-use Prim.Native.Nat.{_+_, _-_, min}
-use lib.ListN.{getD, length-take, length-drop}
-use lib.IntN.{ℤ, pos}
+use lib.ListN.{length-take, length-drop}
 use mir.Syntax.{w32}
 use mir.Val.{toZ, ofZ}
-use Rattle.lists.proofs.Fill.{filled-none, filled-at}
-use Rattle.filter.proofs.Filtered.{filtered-corner}
-use Rattle.filter.proofs.Parts.{filled-next}
-use Rattle.filter.proofs.edge.filter_edge.Proof.Samples.{e, corner-back, g, f, f-back}
+use Rattle.filter.proofs.Pieces.{filter-list}
+use Rattle.filter.proofs.edge.filter_edge.Proof.Samples.{corner-back, f-back}
 use Rattle.filter.proofs.edge.filter_edge.Statement.{statement}
 use Rattle.filter.proofs.edge.filter_edge.Tie as tie
 mod Samples
@@ -87,15 +81,8 @@ returns c =
     let b = c .before .before .before .before .before in
     let a = b .before .before .before in
     let s = a .before .before .before in
-    let n = s .args .n in
-    let p = s .args .list .now in
-    let one = filled-next 0 5 (f s) _ p p _ (omega arith) (omega arith) (sym (filled-none (f s) p)) (a .fill-part .ensures)
-    (λ i h. corner-back s ∙ sym (filtered-corner (s .args .s) (s .args .lim) n (e s) (min n (0 + i - 4)) (omega arith))) in
-    let two = filled-next 5 (n + 5) (f s) _ p _ _ (omega arith) (omega arith) one (b .filter-part .ensures) (λ i h. ap (g s) (omega arith)) in
-    let there = ap (λ (l : List ℤ). getD l (n + 4) (pos 0)) two ∙ filled-at (n + 5) (f s) p (n + 4) (pos 0) (omega arith) in
-    let last = ap (λ z. toZ w32 (ofZ w32 z)) there ∙ f-back s (n + 4) in
-    filled-next (n + 5) (s .args .size) (f s) _ p _ _ (omega arith) (omega arith) two (c .before .fill-part2 .ensures)
-    (λ i h. last ∙ ap (g s) (omega arith))
+    filter-list (s .args .s) (s .args .lim) (s .args .n) (s .args .pad .now) (s .args .list .now) (s .args .size) _ (λ z. toZ w32 (ofZ w32 z)) _ _ _
+    (s .pre .4) (s .pre .5) (corner-back s) (f-back s) (a .fill-part .ensures) (b .filter-part .ensures) (c .before .fill-part2 .ensures)
 
 pub filter-edge-spec : {M : Type 1} → statement M
 filter-edge-spec =

@@ -1,20 +1,11 @@
 -- `filter_part` meets its contract: the filtered places, and the others. Assumes nothing.
 use borrow.Author.Needs.{needs}
 use native.Mathlib.Omega.{arith}
-use mathlib.Core.Path.{sym, _∙_}
-use Prim.Native.Nat.{ℕ, _+_, _-_}
-use lib.IntN.{ℤ}
-use Rattle.lists.proofs.Fill.{filled-none, filled-all}
-use Rattle.filter.specs.Filter.{filtered, kernel}
-use Rattle.filter.specs.Padded.{place}
-use Rattle.filter.proofs.Filtered.{filtered-in, filtered-past}
-use Rattle.filter.proofs.Parts.{filled-next, rest-copy, rest-blur, rest-five, rest-place}
+use Prim.Native.Nat.{_+_, _-_}
+use Rattle.filter.proofs.Parts.{rest-copy, rest-blur}
+use Rattle.filter.proofs.Pieces.{filter-places}
 use Rattle.filter.proofs.edge.filter_part.Statement.{statement}
 use Rattle.filter.proofs.edge.filter_part.Tie as tie
-
-module _ (s : tie.Start) where
-  abbrev f : ℕ → ℤ
-  f i = filtered (s .args .s) (s .args .lim) (s .args .n) (place (s .args .pad .now)) (i + 1)
 
 sub-least : tie.Need-sub-least
 sub-least c = search needs
@@ -96,18 +87,8 @@ returns c =
     let b = c .before .before .before .before .before in
     let t = b .before .before .before in
     let s = t .before in
-    let top = t .least .result in
-    let n = s .args .n in
-    let S = s .args .s in
-    let e = place (s .args .pad .now) in
-    let p = s .args .to .now in
-    let one = filled-next 0 top (f s) _ p p _ (omega arith) (omega arith) (sym (filled-none (f s) p)) (b .blur-by .ensures)
-    (λ i m. rest-five n (s .args .pad .now) (s .pre .5) (kernel S 0) (kernel S 1) (kernel S 2) (kernel S 3) (kernel S 4) i (0 + i + 1) (omega arith) (omega arith)
-    ∙ sym (filtered-in S (s .args .lim) n e (0 + i + 1) (s .pre .0) (omega arith) (omega arith))) in
-    filled-next top n (f s) _ p _ _ (omega arith) (omega arith) one (c .before .copy-part .ensures)
-    (λ i m. rest-place n (s .args .pad .now) (s .pre .5) (top + 5) i (top + i + 1) (omega arith) (omega arith)
-    ∙ sym (filtered-past S (s .args .lim) n e (top + i + 1) (omega arith)))
-    ∙ filled-all n (f s) p (omega arith)
+    filter-places (s .args .s) (s .args .lim) (s .args .n) (s .args .pad .now) (s .args .to .now) (t .least .result) _ _
+    (s .pre .5) (s .pre .0) (s .pre .2) (s .pre .4) (t .least .ensures) (b .blur-by .ensures) (c .before .copy-part .ensures)
 
 pub filter-part-spec : {M : Type 1} → statement M
 filter-part-spec =

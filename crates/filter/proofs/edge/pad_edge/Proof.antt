@@ -1,8 +1,8 @@
 -- `pad_edge` meets its contract: the corner, the entries, the last of them. Assumes nothing.
 use borrow.Author.Needs.{needs}
 use native.Mathlib.Omega.{arith}
-use mathlib.Core.Path.{_≡_, sym, _∙_}
-use Prim.Native.Nat.{ℕ, _+_, _-_}
+use mathlib.Core.Path.{_≡_}
+use Prim.Native.Nat.{_+_, _-_}
 use lib.ListN.{getD}
 use lib.IntN.{ℤ, pos}
 use mir.Syntax.{w32}
@@ -10,10 +10,8 @@ use mir.Val.{toZ, ofZ}
 use mir.Facts.{toZ-ofZ}
 use Rattle.zint.proofs.Bound.{back-abs}
 use Rattle.zint.proofs.Range.{inside-abs}
-use Rattle.lists.proofs.Fill.{filled-none}
-use Rattle.filter.specs.Filter.{edge, padded}
-use Rattle.filter.proofs.Padded.{pad-corner, pad-in, pad-last}
-use Rattle.filter.proofs.Parts.{filled-next, lend}
+use Rattle.filter.proofs.Parts.{lend}
+use Rattle.filter.proofs.Pieces.{pad-list}
 use Rattle.filter.proofs.edge.pad_edge.Statement.{statement}
 use Rattle.filter.proofs.edge.pad_edge.Tie as tie
 
@@ -23,9 +21,6 @@ module _ (s : tie.Start) where
 
   last-back : toZ w32 (ofZ w32 last) ≡ last
   last-back = back-abs w32 last (omega (arith, inside-abs 4095 last (s .pre .1 .0 (s .args .n - 1) (omega arith))))
-
-  abbrev f : ℕ → ℤ
-  f = padded 4 (s .args .n) (edge (s .args .corner) (s .args .edge .now))
 
 add-past : tie.Need-add-past
 add-past c = search needs
@@ -94,15 +89,8 @@ returns c =
     let b = c .before .before .before .before .before in
     let a = b .before .before .before in
     let s = a .before .before in
-    let n = s .args .n in
-    let k = s .args .corner in
-    let es = s .args .edge .now in
-    let p = s .args .list .now in
-    let one = filled-next 0 5 (f s) _ p p _ (omega arith) (omega arith) (sym (filled-none (f s) p)) (a .fill-part .ensures)
-    (λ i h. toZ-ofZ (s .fits .corner) ∙ pad-corner n k es (0 + i) (omega arith)) in
-    let two = filled-next 5 (n + 5) (f s) _ p _ _ (omega arith) (omega arith) one (b .copy-part .ensures) (λ i h. pad-in n k es i (omega arith)) in
-    filled-next (n + 5) (s .args .size) (f s) _ p _ _ (omega arith) (omega arith) two (c .before .fill-part2 .ensures)
-    (λ i h. last-back s ∙ pad-last n k es (n + 5 + i) (omega arith) (omega arith))
+    pad-list (s .args .n) (s .args .size) (s .args .corner) (s .args .edge .now) (s .args .list .now) (s .pre .0 .0) (s .pre .0 .3) (s .pre .0 .4)
+    _ _ _ _ _ (toZ-ofZ (s .fits .corner)) (last-back s) (a .fill-part .ensures) (b .copy-part .ensures) (c .before .fill-part2 .ensures)
 
 pub pad-edge-spec : {M : Type 1} → statement M
 pad-edge-spec =
