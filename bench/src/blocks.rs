@@ -37,12 +37,28 @@ smooth!(smooth_into, smooth_c, "smooth_into");
 smooth!(smooth_v_into, smooth_v_c, "smooth_v_into");
 smooth!(smooth_h_into, smooth_h_c, "smooth_h_into");
 
+#[repr(C)]
+struct Flags {
+    above: bool,
+    left: bool,
+    luma: bool,
+    edge_filter: bool,
+    smooth_neighbour: bool,
+}
+
+#[repr(C)]
+struct Setting {
+    angle: usize,
+    flags: Flags,
+    max_width: u16,
+    max_height: u16,
+}
+
 extern "C" {
     #[link_name = "directional_into"]
     fn directional_c(
-        bs: usize, angle: usize, above_there: bool, left_there: bool, luma: bool, edge_filter: bool, smooth_neighbour: bool,
-        max_width: usize, max_height: usize, m: i32, above: *const i32, above_len: usize, left: *const i32, left_len: usize,
-        corner: i32, out: *mut f32, out_len: usize,
+        bs: usize, setting: Setting, m: i32, above: *const i32, above_len: usize, left: *const i32, left_len: usize, corner: i32,
+        out: *mut f32, out_len: usize,
     );
 }
 
@@ -50,11 +66,17 @@ extern "C" {
 #[inline]
 pub fn directional_into(bs: usize, words: &Words, m: i32, above: &[i32], left: &[i32], corner: i32, out: &mut [f32]) {
     debug_assert!(above.len() >= 2 * bs && left.len() >= 2 * bs && out.len() >= bs * bs);
+    let flags = Flags {
+        above: words.has(ABOVE),
+        left: words.has(LEFT),
+        luma: words.has(LUMA),
+        edge_filter: words.has(EDGE_FILTER),
+        smooth_neighbour: words.has(SMOOTH_NEIGHBOUR),
+    };
+    let setting = Setting { angle: words.angle() as usize, flags, max_width: words.max_width, max_height: words.max_height };
     unsafe {
         directional_c(
-            bs, words.angle() as usize, words.has(ABOVE), words.has(LEFT), words.has(LUMA), words.has(EDGE_FILTER),
-            words.has(SMOOTH_NEIGHBOUR), words.max_width.into(), words.max_height.into(), m,
-            above.as_ptr(), above.len(), left.as_ptr(), left.len(), corner, out.as_mut_ptr(), out.len(),
+            bs, setting, m, above.as_ptr(), above.len(), left.as_ptr(), left.len(), corner, out.as_mut_ptr(), out.len(),
         )
     }
 }
