@@ -9,7 +9,7 @@ use lib.IntN.{ℤ, pos}
 use lib.ListN.{getD}
 use Rattle.lists.specs.Block.{block}
 use Rattle.setting.specs.declared.Setting.{Setting}
-use Rattle.directional.specs.AtAngle.{z1At, z2At, z3At}
+use Rattle.angled.specs.AtAngle.{z1At, z2At, z3At}
 use Rattle.directional.specs.Directional.{isDown, isAcross, directionalAt}
 
 -- 90 is copied down, and 180 across, whatever is there

@@ -12,7 +12,7 @@ use Rattle.setting.specs.Setting.{strengthAbove, strengthLeft, limitAbove, limi
 use Rattle.setting.specs.declared.Setting.{Setting}
 use Rattle.setting.proofs.Most.{above-most, left-most}
 use Rattle.zones.proofs.Range.{along-inside, zone2-inside}
-use Rattle.directional.specs.AtAngle.{aboveReady, leftReady}
+use Rattle.angled.specs.AtAngle.{aboveReady, leftReady}
 use Rattle.directional.specs.Directional.{isDown, isAcross, directionalAt}
 
 module _ (M B : ℕ) (s : Setting) (above left : List ℤ) (k : ℤ) where

@@ -8,7 +8,7 @@ use Rattle.numbers.specs.Flag.{noStray}
 use Rattle.numbers.specs.Size.{isSize}
 use Rattle.numbers.proofs.Agree.{size-all}
 use Rattle.zint.proofs.Range.{and-both}
-use Rattle.zones.specs.Listed.{Fours}
+use Rattle.zone_rows.specs.Listed.{Fours}
 use Rattle.directional.specs.Words.{isNamed}
 
 pub fours : (B : ℕ) → isSize B ≡ true → Fours B

@@ -6,7 +6,7 @@ use lib.Dec.{eqb, ltb}
 use lib.IntN.{ℤ, pos}
 use lib.ListN.{getD}
 use Rattle.setting.specs.declared.Setting.{Setting}
-use Rattle.directional.specs.AtAngle.{z1At, z2At, z3At}
+use Rattle.angled.specs.AtAngle.{z1At, z2At, z3At}
 
 -- "Angle 90, or below 90 with above missing: copy above down."
 unfoldable pub isDown : Setting → Bool

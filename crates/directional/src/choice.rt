@@ -1,8 +1,8 @@
 // The choice by angle (document 01, Directions).
 use crate::copies;
-use crate::zone1;
-use crate::zone2;
-use crate::zone3;
+use angled::zone1;
+use angled::zone2;
+use angled::zone3;
 use setting::Setting;
 ghost use mathlib.Core.Path.{_≡_};
 ghost use mathlib.Core.Bool.{true};

@@ -1,12 +1,8 @@
 // Directions (document 01, Directions). The public call takes any input, and tests the refusals 1, 2, 3, 9, 8 in that order.
 mod choice;
 mod copies;
-mod ready;
 pub mod turned;
 mod words;
-mod zone1;
-mod zone2;
-mod zone3;
 
 use numbers::answer::Answer;
 ghost use Rattle.calls.specs.Direct.{PredictedBy};

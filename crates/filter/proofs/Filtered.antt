@@ -8,8 +8,9 @@ use borrow.Author.Tests.{le-leb, lt-ltb, le-ltb}
 use lib.Dec.{leb, ltb}
 use lib.IntN.{ℤ, pos}
 use Rattle.zint.specs.Range.{inside, Edge}
-use Rattle.filter.specs.Filter.{edge, padded, kernel, taps5, blurred, filtered}
-use Rattle.filter.proofs.Taps.{kernel-inside}
+use Rattle.kernels.specs.Kernel.{kernel, taps5}
+use Rattle.filter.specs.Filter.{edge, padded, blurred, filtered}
+use Rattle.kernels.proofs.Taps.{kernel-inside}
 use Rattle.filter.proofs.Padded.{edge-inside}
 
 and-false : (t : Bool) → (t && false) ≡ false

@@ -1,5 +1,4 @@
 -- Laws of the edge filter.
-pub mod Taps
 pub mod Padded
 pub mod Filtered
 pub mod Ready

@@ -10,7 +10,8 @@ use Rattle.zint.specs.Range.{Edge}
 use Rattle.lists.specs.Fill.{tab, filled}
 use Rattle.lists.proofs.Fill.{rest-at, rest-length, filled-part, length-filled}
 use borrow.Rule.Slice.PartMut.{putMid}
-use Rattle.filter.specs.Filter.{padded, five, taps5}
+use Rattle.kernels.specs.Kernel.{five, taps5}
+use Rattle.filter.specs.Filter.{padded}
 use Rattle.filter.specs.Padded.{place, Ends}
 
 -- a part of a list that is as long as before comes back

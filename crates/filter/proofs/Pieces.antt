@@ -9,7 +9,8 @@ use lib.IntN.{ℤ, pos}
 use borrow.Rule.Slice.PartMut.{putMid}
 use Rattle.lists.specs.Fill.{tab, filled}
 use Rattle.lists.proofs.Fill.{filled-none, filled-at, filled-all}
-use Rattle.filter.specs.Filter.{edge, padded, kernel, five, filtered}
+use Rattle.kernels.specs.Kernel.{kernel, five}
+use Rattle.filter.specs.Filter.{edge, padded, filtered}
 use Rattle.filter.specs.Padded.{place, Ends}
 use Rattle.filter.proofs.Padded.{pad-corner, pad-in, pad-last}
 use Rattle.filter.proofs.Filtered.{filtered-in, filtered-past, filtered-corner}

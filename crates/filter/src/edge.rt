@@ -1,6 +1,6 @@
 // An edge as a list that starts four entries early and ends with its last entry repeated, as it is or filtered (document 01, Directions).
-use crate::kernels;
-use crate::part;
+use kernels::blur;
+use kernels::part;
 ghost use mathlib.Core.Path.{_≡_};
 ghost use mathlib.Core.Bool.{true};
 ghost use Prim.Native.Nat.{_≤_, _<_, _+_};
@@ -33,7 +33,7 @@ fn filter_part(s: usize, lim: usize, n: usize, pad: &[i32], to: &mut [i32])
     let top = pick::least(lim - 1, n);
     let start = 0;
     let from = 3;
-    kernels::blur_by(s, &pad[from..], &mut to[start..top]);
+    blur::blur_by(s, &pad[from..], &mut to[start..top]);
     let past = top + 5;
     part::copy_part(&pad[past..], &mut to[top..n]);
 }

@@ -15,7 +15,8 @@ use Rattle.interp.proofs.Laws.{between-move}
 use Rattle.interp.proofs.Flat.{between-flat}
 use Rattle.filter.specs.Filter.{padded}
 use Rattle.zones.specs.Zones.{along, zone2}
-use Rattle.zones.specs.Listed.{listed, either}
+use Rattle.zone_rows.specs.Listed.{listed}
+use Rattle.zones.specs.Either.{either}
 
 -- past the last place the interpolation gives its entry too
 pub along-is : (lum : Bool) (v n : ℕ) (e : ℕ → ℤ) (q : ℕ) → inside (pos v) (e n) ≡ true → along lum (pos v) n e q ≡ between lum (pos v) (padded 1 n e) q

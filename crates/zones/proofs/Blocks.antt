@@ -13,7 +13,8 @@ use Rattle.lists.specs.Block.{block}
 use Rattle.lists.proofs.Block.{block-same}
 use Rattle.filter.specs.Filter.{padded}
 use Rattle.zones.specs.Zones.{zone1, zone2, zone3}
-use Rattle.zones.specs.Listed.{ahead, either}
+use Rattle.zone_rows.specs.Listed.{ahead}
+use Rattle.zones.specs.Either.{either}
 use Rattle.zones.proofs.Along.{along-listed, zone2-listed}
 
 -- one edge

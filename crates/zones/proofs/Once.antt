@@ -9,7 +9,7 @@ use lib.Dec.{leb, ltb}
 use lib.IntN.{ℤ}
 use borrow.Author.Tests.{ltb-true, ltb-false, le-leb, lt-leb}
 use Rattle.zones.specs.Zones.{backAlong, zone2}
-use Rattle.zones.specs.Listed.{back, either}
+use Rattle.zones.specs.Either.{back, either}
 use Rattle.zones.specs.Split.{splitOf}
 
 module _ (w r c dx : ℕ) (p : 0 < dx) (q : c < w) where

@@ -1,7 +1,4 @@
-// The zones of the directions (document 01, Directions).
-pub mod rows;
-pub mod split;
-pub mod spread;
-pub mod strips;
-pub mod walk;
+// Zone 2 over its two lists of entries (document 01, Directions). The laws are those of all three zones.
+mod split;
+mod walk;
 pub mod z2;

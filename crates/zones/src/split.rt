@@ -1,6 +1,6 @@
 // The rows of zone 2 in a strip of four: the first columns of a row are from the left edge, which the strip holds, and the others from the edge above.
 // Each sample is given once.
-use crate::spread;
+use zone_rows::spread;
 ghost use mathlib.Core.Path.{_≡_};
 ghost use mathlib.Core.Bool.{true, cond};
 ghost use Prim.Native.Nat.{_+_, _*_, _-_, _≤_, _<_};
@@ -12,7 +12,7 @@ ghost use Rattle.zint.specs.Range.{inside};
 ghost use Rattle.lists.specs.Fill.{tab};
 ghost use Rattle.lists.specs.Block.{rows, sample};
 ghost use Rattle.interp.specs.Quads.{tableOf};
-ghost use Rattle.zones.specs.Listed.{listed, Holds};
+ghost use Rattle.zone_rows.specs.Listed.{listed, Holds};
 ghost use Rattle.zones.specs.Split.{splitOf};
 
 // How many columns of a row are from the left edge: those that t 64ths back lead past the corner.

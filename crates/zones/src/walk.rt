@@ -10,7 +10,7 @@ ghost use Rattle.lists.specs.Fill.{filled};
 ghost use Rattle.lists.specs.Block.{rows, sample};
 ghost use Rattle.interp.specs.Quads.{tableOf};
 ghost use Rattle.interp.specs.Interp.{between};
-ghost use Rattle.zones.specs.Listed.{Holds};
+ghost use Rattle.zone_rows.specs.Listed.{Holds};
 ghost use Rattle.zones.specs.Split.{splitOf};
 
 // The columns of the strip from row r0 on, from the left edge: those before the split of its last row, which is the strip's last to be reached. The walk

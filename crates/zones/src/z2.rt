@@ -10,7 +10,8 @@ ghost use Rattle.zint.specs.Range.{inside};
 ghost use Rattle.lists.specs.Fill.{tab};
 ghost use Rattle.lists.specs.Block.{rows, sample, block};
 ghost use Rattle.interp.specs.Quads.{tableOf};
-ghost use Rattle.zones.specs.Listed.{either, Holds};
+ghost use Rattle.zone_rows.specs.Listed.{Holds};
+ghost use Rattle.zones.specs.Either.{either};
 
 // The strip from row r0 on.
 fn z2_strip(

@@ -16,7 +16,7 @@ use Rattle.lists.specs.Fill.{tab, filled}
 use Rattle.lists.specs.Block.{rows, sample}
 use Rattle.lists.proofs.Fill.{filled-none, filled-all}
 use Rattle.lists.proofs.Block.{filled-row, part-length}
-use Rattle.zones.specs.Listed.{listed}
+use Rattle.zone_rows.specs.Listed.{listed}
 use Rattle.zones.proofs.split.split_rows.Statement.{statement}
 use Rattle.zones.proofs.split.split_rows.Tie as tie
 

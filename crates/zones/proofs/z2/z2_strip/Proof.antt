@@ -19,7 +19,8 @@ use Rattle.lists.specs.Block.{rows, sample}
 use Rattle.lists.proofs.Fill.{tab-same}
 use Rattle.lists.proofs.Block.{rows-at, rows-same}
 use Rattle.interp.specs.Interp.{between}
-use Rattle.zones.specs.Listed.{listed, either}
+use Rattle.zone_rows.specs.Listed.{listed}
+use Rattle.zones.specs.Either.{either}
 use Rattle.zones.specs.Split.{splitOf}
 use Rattle.zones.proofs.Inside.{left-inside}
 use Rattle.zones.proofs.z2.z2_strip.Statement.{statement}

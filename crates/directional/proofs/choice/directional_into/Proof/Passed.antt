@@ -8,7 +8,7 @@ use Rattle.zint.specs.Range.{inside, Edge}
 use Rattle.calls.specs.Given.{Given}
 use Rattle.calls.proofs.Given.{given-more}
 use Rattle.zint.proofs.Range.{inside-abs}
-use Rattle.zones.specs.Listed.{Fours}
+use Rattle.zone_rows.specs.Listed.{Fours}
 use Rattle.directional.specs.Directional.{isDown, isAcross}
 use Rattle.directional.proofs.Named.{fours}
 use Rattle.directional.proofs.Cases.{not-ninety, not-half}

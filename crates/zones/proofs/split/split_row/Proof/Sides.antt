@@ -19,7 +19,7 @@ use Rattle.lists.specs.Fill.{tab, filled}
 use Rattle.lists.specs.Block.{sample}
 use Rattle.lists.proofs.Fill.{filled-none, filled-part}
 use Rattle.interp.specs.Interp.{between}
-use Rattle.zones.specs.Listed.{listed}
+use Rattle.zone_rows.specs.Listed.{listed}
 use Rattle.zones.proofs.split.split_row.Tie as tie
 
 module _ (v : tie.After-split-of) where

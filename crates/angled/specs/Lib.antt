@@ -1,0 +1,2 @@
+-- The zones as a direction is set, from document 01.
+pub mod AtAngle

@@ -1,0 +1,2 @@
+-- Laws of the edge filter's kernels.
+pub mod Taps

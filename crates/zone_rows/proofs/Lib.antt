@@ -1,0 +1,1 @@
+-- The proofs of rows along a list of entries.
