@@ -1,13 +1,13 @@
 -- Predictions of a direction lie in 0..M where the edges and the corner do, with B, M, the angle, the flags and the limits open. Assumes nothing.
 use mathlib.Core.Path.{_≡_}
-use mathlib.Core.Bool.{Bool, true, false, cond}
+use mathlib.Core.Bool.{true}
 use mathlib.Core.List.{List}
 use Prim.Native.Nat.{ℕ, _+_, _*_, _<_}
 use native.Mathlib.Omega.{arith}
 use lib.Dec.{ltb}
 use lib.IntN.{ℤ, pos}
 use Rattle.zint.specs.Range.{inside, Edge}
-use Rattle.filter.proofs.Filtered.{filtered-inside}
+use Rattle.filter.proofs.Filtered.{filtered-inside, one-of}
 use Rattle.setting.specs.Setting.{strengthAbove, strengthLeft, limitAbove, limitLeft}
 use Rattle.setting.specs.declared.Setting.{Setting}
 use Rattle.setting.proofs.Most.{above-most, left-most}
@@ -19,10 +19,6 @@ module _ (M B : ℕ) (s : Setting) (above left : List ℤ) (k : ℤ) where
   abbrev In : ℤ → Type 0
   In z = inside (pos M) z ≡ true
 
-  one-of : (t : Bool) (a b : ℤ) → In a → In b → In (cond t a b)
-  one-of true a b p q = p
-  one-of false a b p q = q
-
   -- the last entries of the filtered edges
   last-above : Edge M (2 * B) above → In k → In (aboveReady B B s (B + B) above k (B + B))
   last-above h q = filtered-inside M (B + B) (strengthAbove s (B + B)) (limitAbove s (B + B) B) k above (B + B) (above-most s (B + B)) (λ i l. h i (omega arith)) q (omega arith)
@@ -33,8 +29,8 @@ module _ (M B : ℕ) (s : Setting) (above left : List ℤ) (k : ℤ) where
   pub directional-inside : Edge M (2 * B) above → Edge M (2 * B) left → In k → (r c : ℕ) → r < B → c < B
       → In (directionalAt B B (pos M) s above left k r c)
   directional-inside ha hl hk r c hr hc =
-      one-of (isDown s) _ _ (ha c (omega arith))
-      (one-of (isAcross s) _ _ (hl r (omega arith))
-      (one-of (ltb (s .angle) 90) _ _ (along-inside M (s .flags .luma) (B + B) _ _ (last-above ha hk))
-      (one-of (ltb (s .angle) 180) _ _ (zone2-inside M (s .flags .luma) B B _ _ _ _ r c)
+      one-of In (isDown s) _ _ (ha c (omega arith))
+      (one-of In (isAcross s) _ _ (hl r (omega arith))
+      (one-of In (ltb (s .angle) 90) _ _ (along-inside M (s .flags .luma) (B + B) _ _ (last-above ha hk))
+      (one-of In (ltb (s .angle) 180) _ _ (zone2-inside M (s .flags .luma) B B _ _ _ _ r c)
       (along-inside M (s .flags .luma) (B + B) _ _ (last-left hl hk)))))

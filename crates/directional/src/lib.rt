@@ -2,7 +2,7 @@
 mod choice;
 mod copies;
 pub mod turned;
-mod words;
+pub mod words;
 
 use numbers::answer::Answer;
 ghost use Rattle.calls.specs.Direct.{PredictedBy};

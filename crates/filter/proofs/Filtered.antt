@@ -46,9 +46,10 @@ filtered-same s lim n e f h i l = λ j.
     p : (t : ℕ) → padded 2 n e t ≡ padded 2 n f t
     p t = h (min n (t - 2)) (omega arith)
 
-either : (P : ℤ → Type 0) (t : Bool) (a b : ℤ) → P a → P b → P (cond t a b)
-either P true a b p q = p
-either P false a b p q = q
+-- what holds of both holds of the one that a test picks
+pub one-of : (P : ℤ → Type 0) (t : Bool) (a b : ℤ) → P a → P b → P (cond t a b)
+one-of P true a b p q = p
+one-of P false a b p q = q
 
 -- from samples
 pub filtered-sample : (v n s lim : ℕ) (e : ℕ → ℤ) → s ≤ 3 → ((j : ℕ) → j ≤ n → inside (pos v) (e j) ≡ true) → (i : ℕ) → i ≤ n
@@ -56,7 +57,7 @@ pub filtered-sample : (v n s lim : ℕ) (e : ℕ → ℤ) → s ≤ 3 → ((j : 
 unfolding filtered
 filtered-sample v n zero lim e l p i h = p i h
 filtered-sample v n (suc s) lim e l p i h =
-    either (λ z. inside (pos v) z ≡ true) (leb 1 (suc s) && (leb 1 i && ltb i lim)) _ _
+    one-of (λ z. inside (pos v) z ≡ true) (leb 1 (suc s) && (leb 1 i && ltb i lim)) _ _
     (kernel-inside v (suc s) (omega arith) l (padded 2 n e) (λ t. p (min n (t - 2)) (omega arith)) i (i + 1) (i + 2) (i + 3) (i + 4))
     (p i h)
 

@@ -12,7 +12,7 @@ ghost use Rattle.filter.specs.Filter.{edge as edgeOf, padded, filtered};
 ghost use Rattle.filter.specs.Padded.{place, Ends};
 
 // The corner, the edge's entries and the last of them on to `size`.
-pub fn pad_edge(corner: i32, edge: &[i32], n: usize, size: usize, list: &mut [i32])
+fn pad_edge(corner: i32, edge: &[i32], n: usize, size: usize, list: &mut [i32])
     requires { ⌜ (0 < n) × (n ≤ 128) × (n ≤ length (now edge)) × (n + 7 ≤ size) × (size ≤ length (now list)) ⌝ }
     requires { ⌜ Edge 4095 n (now edge) × (inside (pos 4095) corner ≡ true) ⌝ }
     ensures { λ _. ⌜ now (list .exit) ≡ filled size (padded 4 n (edgeOf corner (now (edge .entry)))) (now (list .entry)) ⌝ }

@@ -1,2 +1,2 @@
--- The kernels of the edge filter, from document 01.
+-- The kernels of the edge filter, from document 01: a reader must believe them.
 pub mod Kernel

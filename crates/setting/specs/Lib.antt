@@ -1,4 +1,4 @@
--- What a direction is set to, from document 01.
+-- What a direction is set to, from document 01: a reader must believe all of it.
 pub mod Strength
 pub mod Setting
 pub mod Corner
