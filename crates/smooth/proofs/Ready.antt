@@ -1,7 +1,7 @@
 -- What a block function hands to its rows, with the size B open: the entry that ends an edge, log2 B, the scale and its weights; and that what the
 -- rows work out at a place is the definition's sample. Assumes nothing.
 use mathlib.Core.Path.{_≡_, refl, sym, _∙_, ap}
-use mathlib.Core.Bool.{Bool, true}
+use mathlib.Core.Bool.{true}
 use mathlib.Core.List.{List}
 use Prim.Native.Nat.{ℕ, _-_, _*_, _^_, _≤_, _<_}
 use native.Mathlib.Omega.{arith}
@@ -15,8 +15,7 @@ use Rattle.zint.proofs.Range.{pos-inside}
 use Rattle.lists.specs.Fill.{tab}
 use Rattle.lists.proofs.Fill.{length-tab, tab-at}
 use Rattle.calls.specs.Given.{Given}
-use Rattle.calls.proofs.Accepted.{Accepted, size-most, depth-most}
-use Rattle.calls.proofs.Given.{given, given-more}
+use Rattle.calls.proofs.Accepted.{size-most}
 use Rattle.smooth_steps.specs.Parts.{entry, weighed, Step, Entries, Weights}
 use Rattle.smooth_steps.proofs.Steps.{entry-in, entry-abs, entry-most}
 use Rattle.smooth_weights.specs.Weights.{log2, scale, weight}
@@ -37,10 +36,6 @@ no-corner {M = M} g = record {
   left-in = g .left-in;
   corner-in = pos-inside M 0 (omega arith);
 }
-
--- a call that is not refused
-pub granted : {B D : ℕ} {named : Bool} {above left : List ℤ} {k : ℤ} {n : ℕ} → Accepted B D named above left k n → Given B 4095 above left (pos 0) n
-granted {D = D} a = no-corner (given-more (depth-most D (a .depth)) (given a))
 
 -- the edges, as the rows have them
 module _ {B n : ℕ} {above left : List ℤ} {k : ℤ} (g : Given B 4095 above left k n) where

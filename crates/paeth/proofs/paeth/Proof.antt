@@ -6,12 +6,10 @@ use mathlib.Core.Bool.{true}
 use lib.ListN.{length}
 use mir.Facts.{toZ-ofZ}
 use Rattle.numbers.specs.Answer.{isDone}
-use Rattle.numbers.proofs.Named.{done-is}
 use Rattle.ladder.proofs.Promise.{refused, finished}
 use Rattle.calls.specs.Direct.{directAnswer}
 use Rattle.calls.specs.Given.{Given}
-use Rattle.calls.proofs.Accepted.{accepted, depth-most}
-use Rattle.calls.proofs.Given.{given, given-more}
+use Rattle.calls.proofs.Passed.{passed}
 use Rattle.paeth.proofs.paeth.Statement.{statement}
 use Rattle.paeth.proofs.paeth.Tie as tie
 
@@ -29,7 +27,7 @@ module _ (c : tie.Else1) where
   done = sym (c .before .is-done .ensures) ∙ not-false (c .before .is-done .result) (c .if1 .left)
 
   granted : Given (s (c .before) .args .b) 4095 (s (c .before) .args .above .now) (s (c .before) .args .left .now) (s (c .before) .args .corner) (length (s (c .before) .args .out .now))
-  granted = let a = accepted _ _ _ _ _ _ _ (sym (is (c .before)) ∙ done-is _ done) in given-more (depth-most _ (a .depth)) (given a)
+  granted = passed _ true (is (c .before)) done
 
 direct-requires : tie.Need-direct-requires
 direct-requires c κs = search needs

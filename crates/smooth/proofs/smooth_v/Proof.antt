@@ -6,11 +6,10 @@ use mathlib.Core.Bool.{true}
 use lib.ListN.{length}
 use mir.Facts.{toZ-ofZ}
 use Rattle.numbers.specs.Answer.{isDone}
-use Rattle.numbers.proofs.Named.{done-is}
 use Rattle.ladder.proofs.Promise.{refused, finished}
 use Rattle.calls.specs.Direct.{directAnswer}
-use Rattle.calls.proofs.Accepted.{accepted}
-use Rattle.smooth.proofs.Ready.{granted}
+use Rattle.calls.proofs.Passed.{passed}
+use Rattle.smooth.proofs.Ready.{no-corner}
 use Rattle.smooth.proofs.smooth_v.Statement.{statement}
 use Rattle.smooth.proofs.smooth_v.Tie as tie
 
@@ -36,7 +35,7 @@ returns c =
     refused _ _ (is (c .before)) (sym (c .before .is-done .ensures) ∙ not-true (c .before .is-done .result) (c .if1 .taken))
 
 smooth-v-into-requires : tie.Need-smooth-v-into-requires
-smooth-v-into-requires c κs = granted (accepted _ _ _ _ _ _ _ (sym (is (c .before .before)) ∙ done-is _ (done (c .before))))
+smooth-v-into-requires c κs = no-corner (passed _ true (is (c .before .before)) (done (c .before)))
 
 same-length : tie.Need-same-length
 same-length c = search needs

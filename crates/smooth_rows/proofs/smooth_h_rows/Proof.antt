@@ -1,16 +1,16 @@
 -- `smooth_h_rows` meets its contract. The invariant: the first r rows are written, and o is r bs. Assumes nothing.
 use Prim.Native.Nat.{ℕ, _≤_, _+_, _-_, _*_}
-use native.Mathlib.Nat.{mul-le-mul-right}
 use native.Mathlib.Omega.{arith}
-use mathlib.Core.Path.{_≡_, refl, sym, _∙_, ap}
+use mathlib.Core.Path.{_≡_, refl, sym, _∙_}
 use mathlib.Core.List.{List}
 use lib.ListN.{length, getD}
 use lib.IntN.{ℤ, pos, natAbs}
 use lib.Ieee.{Float}
 use Rattle.lists.specs.Fill.{filled}
-use Rattle.lists.specs.Block.{rows, sample, block}
+use Rattle.lists.specs.Block.{rows, sample}
 use Rattle.lists.proofs.Fill.{filled-none}
 use Rattle.lists.proofs.Block.{filled-row, part-length}
+use Rattle.lists.proofs.RowLoop.{row-room, all-rows}
 use Rattle.smooth_steps.specs.Parts.{entry, weighed}
 use Rattle.smooth_steps.proofs.Steps.{entry-most, line-long, line-at, line-most}
 use Rattle.smooth_rows.proofs.smooth_h_rows.Statement.{statement}
@@ -32,7 +32,7 @@ module _ (c : tie.In-loop Inv-loop μ-loop) where
 
   -- the row lies in the output
   room : c .before .loop .o + s .args .bs ≤ length (c .before .loop .out)
-  room = omega (arith, mul-le-mul-right (s .args .bs) (c .loop-test .taken))
+  room = row-room (s .args .bs) (c .before .loop .inv .1) (c .loop-test .taken) (s .pre .0 .3) (c .before .loop .inv .3)
 
 loop-holds : tie.Need-loop-holds Inv-loop μ-loop
 loop-holds c = (omega arith, omega arith, refl, refl, sym (filled-none _ _))
@@ -98,13 +98,10 @@ same-length-2 : tie.Need-same-length-2 Inv-loop μ-loop
 same-length-2 c = c .before .loop .inv .3
 
 returns : tie.Need-returns Inv-loop μ-loop
-unfolding block
 returns c =
     let l = c .before .loop in
     let B = c .before .before .before .before .before .args .bs in
-    let r : l .r ≡ B = omega arith in
-    let o : l .o ≡ B * B = l .inv .1 ∙ ap (λ x. x * B) r in
-    l .inv .4 ∙ rw o
+    all-rows B B (l .r) (l .o) _ _ _ (l .inv .1) (l .inv .0) (omega arith) (l .inv .4)
 
 pub smooth-h-rows-spec : {M : Type 1} → statement M
 smooth-h-rows-spec =

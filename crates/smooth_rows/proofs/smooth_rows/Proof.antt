@@ -2,9 +2,10 @@
 use native.Mathlib.Omega.{arith}
 use mathlib.Core.Path.{_≡_, refl, sym, _∙_}
 use lib.IntN.{pos}
-use Rattle.lists.specs.Block.{sample, block}
+use Rattle.lists.specs.Block.{sample}
 use Rattle.lists.proofs.Fill.{filled-none}
 use Rattle.lists.proofs.Block.{filled-row, part-length}
+use Rattle.lists.proofs.RowLoop.{all-rows}
 use Rattle.smooth_steps.specs.Parts.{mean}
 use Rattle.smooth_steps.proofs.Steps.{parts-most, by-parts, entry-most, line-long, line-at, line-most}
 use Rattle.smooth_rows.proofs.smooth_rows.Proof.Steps.{down, at, Inv-loop, μ-loop, s, beside, room}
@@ -95,12 +96,10 @@ same-length-2 : tie.Need-same-length-2 Inv-loop μ-loop
 same-length-2 c = c .before .loop .inv .3
 
 returns : tie.Need-returns Inv-loop μ-loop
-unfolding block
 returns c =
     let l = c .before .loop in
     let B = c .before .before .before .before .before .args .bs in
-    let r : l .r ≡ B = omega arith in
-    l .inv .4 ∙ rw (l .inv .1, r)
+    all-rows B B (l .r) (l .o) _ _ _ (l .inv .1) (l .inv .0) (omega arith) (l .inv .4)
 
 pub smooth-rows-spec : {M : Type 1} → statement M
 smooth-rows-spec =

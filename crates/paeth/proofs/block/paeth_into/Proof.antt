@@ -1,6 +1,5 @@
 -- `paeth_into` meets its contract. The invariant: the first r rows are written, and o is r bs. Assumes nothing.
 use Prim.Native.Nat.{ℕ, _≤_, _+_, _-_, _*_}
-use native.Mathlib.Nat.{mul-le-mul-right}
 use native.Mathlib.Omega.{arith}
 use mathlib.Core.Path.{_≡_, refl, sym, _∙_, ap}
 use mathlib.Core.List.{List}
@@ -16,6 +15,7 @@ use Rattle.zint.proofs.Bound.{back-abs}
 use Rattle.zint.proofs.Range.{inside-abs}
 use Rattle.lists.proofs.Fill.{filled-none}
 use Rattle.lists.proofs.Block.{filled-row, part-length}
+use Rattle.lists.proofs.RowLoop.{row-room, all-rows}
 use Rattle.paeth_rows.specs.Chosen.{chosen}
 use Rattle.paeth.specs.Paeth.{paethAt}
 use Rattle.paeth.proofs.Laws.{paeth-is}
@@ -35,7 +35,7 @@ abbrev μ-loop : tie.MeasureT-loop
 module _ (c : tie.In-loop Inv-loop μ-loop) where
   -- the row lies in the output
   room : c .before .loop .o + c .before .before .before .args .bs ≤ length (c .before .loop .out)
-  room = omega (arith, mul-le-mul-right (c .before .before .before .args .bs) (c .loop-test .taken))
+  room = let s = c .before .before .before in row-room (s .args .bs) (c .before .loop .inv .1) (c .loop-test .taken) (s .pre .out-long) (c .before .loop .inv .2)
 
   -- the entry left of it is a sample
   abbrev l : ℤ
@@ -103,13 +103,13 @@ same-length : tie.Need-same-length Inv-loop μ-loop
 same-length c = c .before .loop .inv .2
 
 returns : tie.Need-returns Inv-loop μ-loop
-unfolding block
 returns c =
     let k = c .before in
     let s = k .before .before in
-    let r : k .loop .r ≡ s .args .bs = omega arith in
-    let o : k .loop .o ≡ s .args .bs * s .args .bs = k .loop .inv .1 ∙ ap (λ x. x * s .args .bs) r in
-    k .loop .inv .3 ∙ rw o (ap (λ z. filled (s .args .bs * s .args .bs) (rows (s .args .bs) (at (s .args .bs) (s .args .above .now) (s .args .left .now) z)) (s .args .out .now)) (toZ-ofZ (s .fits .corner)))
+    let B = s .args .bs in
+    let p = paethAt B (s .args .above .now) (s .args .left .now) in
+    all-rows B B (k .loop .r) (k .loop .o) (p (toZ w32 (ofZ w32 (s .args .corner)))) _ _ (k .loop .inv .1) (k .loop .inv .0) (omega arith) (k .loop .inv .3)
+    ∙ ap (λ z. block B B (p z) (s .args .out .now)) (toZ-ofZ (s .fits .corner))
 
 pub paeth-into-spec : {M : Type 1} → statement M
 paeth-into-spec =

@@ -1,7 +1,5 @@
 -- The loop of `smooth_rows`: its invariant, that the first r rows are written and o is r bs, and where row r lies. Assumes nothing.
 use Prim.Native.Nat.{ℕ, _≤_, _+_, _-_, _*_}
-use native.Mathlib.Nat.{mul-le-mul-right}
-use native.Mathlib.Omega.{arith}
 use mathlib.Core.Path.{_≡_}
 use mathlib.Core.List.{List}
 use lib.ListN.{length, getD}
@@ -9,6 +7,7 @@ use lib.IntN.{ℤ, pos, natAbs}
 use lib.Ieee.{Float}
 use Rattle.lists.specs.Fill.{filled}
 use Rattle.lists.specs.Block.{rows, sample}
+use Rattle.lists.proofs.RowLoop.{row-room}
 use Rattle.smooth_steps.specs.Parts.{entry, weighed, mean}
 use Rattle.smooth_rows.proofs.smooth_rows.Tie as tie
 
@@ -36,4 +35,4 @@ module _ (c : tie.In-loop Inv-loop μ-loop) where
 
   -- the row lies in the output
   pub room : c .before .loop .o + s .args .bs ≤ length (c .before .loop .out)
-  room = omega (arith, mul-le-mul-right (s .args .bs) (c .loop-test .taken))
+  room = row-room (s .args .bs) (c .before .loop .inv .1) (c .loop-test .taken) (s .pre .0 .5) (c .before .loop .inv .3)
