@@ -1,2 +1,2 @@
--- The Paeth predictor, from document 01.
+-- To believe: Paeth, from document 01.
 pub mod Paeth
