@@ -1,13 +1,12 @@
 -- "Numbers on paper" of document 01, cases 1 to 14: what the definitions give, and what the paper has, case by case in the same order.
 use mathlib.Core.Bool.{true, false}
-use mathlib.Core.List.{List, [], _∷_}
+use mathlib.Core.List.{List, [], _∷_, _++_}
 use Prim.Native.Nat.{ℕ, _+_, _/_, _%_}
 use lib.IntN.{ℤ, pos, negℤ}
 use lib.Ieee.{binary32, ofBits}
 use Rattle.lists.specs.Fill.{tab}
 use Rattle.samples.specs.Sample.{reading}
-use Rattle.edges.specs.Behind.{aboveBehind, leftBehind, cornerBehind}
-use Rattle.edges.specs.Refs.{valueOf}
+use Rattle.edges.specs.Refs.{Lists, refsOf}
 use Rattle.edges.specs.declared.spec.IntraRefSpec.{IntraRefSpec}
 use Rattle.paeth.specs.Paeth.{paeth}
 use Rattle.smooth.specs.Smooth.{smoothVAt}
@@ -15,16 +14,16 @@ use Rattle.directional.specs.Directional.{directionalAt}
 use Rattle.fixed.specs.Product.{ilog2, mulFixed}
 use Rattle.reciprocal.specs.Division.{scaleOf}
 
--- smooth_v at B 4, where all entries above are t and all at the left e: row r of the first column
-abbrev smoothV4 : ℕ → ℕ → ℕ → ℤ
-smoothV4 t e r = smoothVAt 4 (tab 8 (λ i. pos t)) (tab 8 (λ i. pos e)) (pos 0) r 0
+-- smooth_v at B 4, where all entries above are t and all at the left e: the sample at row r and column c
+abbrev smoothV4 : ℕ → ℕ → ℕ → ℕ → ℤ
+smoothV4 t e r c = smoothVAt 4 (tab 8 (λ i. pos t)) (tab 8 (λ i. pos e)) (pos 0) r c
 
--- a block with no neighbours
+-- a block of 64 with no neighbours, whose edges have 128 entries
 abbrev alone : ℕ → IntraRefSpec
 alone base = record {
   x = 0;
   y = 0;
-  b = 4;
+  b = 64;
   d = 8;
   «have_above» = false;
   «have_left» = false;
@@ -34,6 +33,10 @@ alone base = record {
   «available_left» = 0;
   base = base;
 }
+
+-- what `build_refs` writes of it into lists of zeros
+abbrev aloneRefs : ℕ → Lists
+aloneRefs base = refsOf [] 64 (alone base) (record { above = tab 128 (λ i. pos 0); left = tab 128 (λ i. pos 0); corner = tab 1 (λ i. pos 0) })
 
 -- a direction at an angle, of chroma, without a filter, at B 4 and D 8, with both neighbours there: the sample at row r and column c
 abbrev chroma4 : ℕ → List ℤ → List ℤ → ℤ → ℕ → ℕ → ℤ
@@ -55,14 +58,14 @@ given =
     (paeth (pos 25) (pos 10) (pos 20) ∷ []) ∷
     (paeth (pos 10) (pos 20) (pos 15) ∷ []) ∷
     -- 4: smooth_v, B 4, above 100, left[4] 20: a column
-    (smoothV4 100 20 0 ∷ smoothV4 100 20 1 ∷ smoothV4 100 20 2 ∷ smoothV4 100 20 3 ∷ []) ∷
+    tab 4 (λ r. smoothV4 100 20 r 0) ∷
     -- 5: above 20, left[4] 100: the first row
-    (smoothV4 20 100 0 ∷ []) ∷
+    tab 4 (λ c. smoothV4 20 100 0 c) ∷
     -- 6 and 7: f32 bits 3EFFFFFF, and 127.5
     (pos (reading (ofBits binary32 0x3eff_ffff)) ∷ []) ∷
     (pos (reading (ofBits binary32 0x42ff_0000)) ∷ []) ∷
-    -- 8: no neighbours, base 128: above, left, corner
-    (valueOf 4 [] (aboveBehind (alone 128) 0) ∷ valueOf 4 [] (leftBehind (alone 128) 0) ∷ valueOf 4 [] (cornerBehind (alone 128)) ∷ []) ∷
+    -- 8: no neighbours, base 128: above, left, corner, every entry
+    (aloneRefs 128 .above ++ aloneRefs 128 .left ++ aloneRefs 128 .corner) ∷
     -- 9: angle 45, where above[i] is i: all rows, one after the other
     tab 16 (λ i. chroma4 45 (from 0) (from 100) (pos 99) (i / 4) (i % 4)) ∷
     -- 10: angle 135: the four samples with x = y, where the corner is 99
@@ -82,10 +85,10 @@ paper =
     (pos 10 ∷ []) ∷
     (pos 15 ∷ []) ∷
     (pos 90 ∷ pos 65 ∷ pos 42 ∷ pos 20 ∷ []) ∷
-    (pos 30 ∷ []) ∷
+    (pos 30 ∷ pos 30 ∷ pos 30 ∷ pos 30 ∷ []) ∷
     (pos 1 ∷ []) ∷
     (pos 128 ∷ []) ∷
-    (pos 127 ∷ pos 129 ∷ pos 128 ∷ []) ∷
+    (tab 128 (λ i. pos 127) ++ tab 128 (λ i. pos 129) ++ (pos 128 ∷ [])) ∷
     (pos 1 ∷ pos 2 ∷ pos 3 ∷ pos 4 ∷ pos 2 ∷ pos 3 ∷ pos 4 ∷ pos 5 ∷ pos 3 ∷ pos 4 ∷ pos 5 ∷ pos 6 ∷ pos 4 ∷ pos 5 ∷ pos 6 ∷ pos 7 ∷ []) ∷
     (pos 99 ∷ pos 99 ∷ pos 99 ∷ pos 99 ∷ []) ∷
     (pos 22 ∷ []) ∷
