@@ -17,7 +17,7 @@ use lib.Dec.{T}
 use borrow.Author.Tests.{ltb-true}
 use Rattle.zint.proofs.Parts.{same, add, sub, sfits}
 use Rattle.zint.proofs.Order.{ltZ-false}
-use Rattle.zint.proofs.Naturals.{either, pow-le}
+use Rattle.zint.proofs.Naturals.{pow-le, pow-below}
 use Rattle.fixed.specs.Product.{ilog2, digits}
 
 -- ---- the highest set bit
@@ -50,9 +50,6 @@ ilog2-zero = simp leading-of-zero
 ilog2-one : ilog2 1 ≡ 0
 unfolding ilog2 leadingZeros
 ilog2-one = refl
-
-pub pow-below : (i k : ℕ) → 2 ^ i < 2 ^ k → i < k
-pow-below i k h = ⊎-elim (λ (l : k ≤ i). let g = pow-le {i = k} {j = i} l in absurd (omega arith)) (λ l. l) (either k i)
 
 -- the last bit set moves the highest one only of 0
 pub odd : (n : ℕ) → bitOr n 1 ≡ n / 2 * 2 + 1

@@ -18,8 +18,8 @@ use Rattle.zint.proofs.Range.{inside-abs, inside-pos}
 use Rattle.zint.proofs.Bound.{abs-times}
 use Rattle.fixed.specs.Product.{ilog2, digits, over, narrow, signed, near, rounded, mulFixed, limitOf}
 use Rattle.fixed.specs.Short.{term}
-use Rattle.zint.proofs.Naturals.{either, pow-le}
-use Rattle.fixed.proofs.Shift.{pow-below, ilog2-is, ilog2-zero}
+use Rattle.zint.proofs.Naturals.{either, pow-le, pow-below}
+use Rattle.fixed.proofs.Shift.{ilog2-is, ilog2-zero}
 use Rattle.fixed.proofs.Rounding.{rounded-near, near-zero}
 use Rattle.fixed.proofs.Bounds.{digits-of}
 

@@ -3,22 +3,20 @@
 use mathlib.Core.Path.{_≡_, refl, sym, ap, _∙_, subst}
 use mathlib.Core.Bool.{true, false, not}
 use Prim.Native.Nat.{ℕ, suc, _+_, _-_, _*_, _/_, _%_, _^_, _≤_, _<_, min}
-use native.Mathlib.Nat.{le-trans, le-of-eq, lt-of-lt-of-le, lt-of-le-of-lt, lt-of-not-le, lt-irrefl, mul-le-mul-right, le-add-right, mod-lt, mod-eq-of-lt, div-lt-iff-lt-mul}
+use native.Mathlib.Nat.{le-trans, le-of-eq, lt-of-lt-of-le, lt-of-le-of-lt, mul-le-mul-right, le-add-right, mod-lt, mod-eq-of-lt, div-lt-iff-lt-mul}
 use native.Mathlib.Omega.{arith}
 use lib.Dec.{T, leb, nleb→lt, lit≤}
-use lib.Pow.{pow-add, pow-pos, pow-mono, shl-lt, shl-shr, shr-shr}
+use lib.Pow.{pow-add, pow-pos, shl-lt, shl-shr, shr-shr}
 use lib.Ieee.{Float, nan, inf, fin, binary32, fits, isNan, ofBits, toBits, lt, le, toUnsigned}
 use lib.Ieee.Bits.{ofBits-toBits}
 use lib.Ieee.Nearest.{div-same}
 use lib.Ieee.Positive.{num, den, positive, den-pos, value→cross}
+use Rattle.zint.proofs.Naturals.{pow-below}
 use Rattle.samples.specs.Sample.{half}
 use Rattle.samples.proofs.Within.{two-to, no, Within, within, units-ge, units-lt}
 use Rattle.samples.proofs.Fields.{ofBits-is, Read, read}
 
 -- ---- the pattern of an x that is at least 1/2 and below 2 ^ 13
-
-pow-lt-back : (i p : ℕ) → 2 ^ i < 2 ^ p → i < p
-pow-lt-back i p h = lt-of-not-le (λ (g : p ≤ i). lt-irrefl (2 ^ i) (lt-of-lt-of-le h (pow-mono g)))
 
 with-lead : (t : ℕ) → t < 2 ^ 23 → 2 ^ 23 + t < 2 ^ 24
 with-lead t h = omega arith
@@ -63,8 +61,8 @@ shape-of b i =
     let hi : q * 2 ^ j < 2 ^ 13 * 2 ^ 149 = units-lt (num x) (den x) (q * 2 ^ j) (2 ^ 149) (den-pos x) v (2 ^ 13) (pow-pos 149) (i .2) in (
       j,
       ap (λ (k : ℕ). k / 2 ^ 23) (sym (mod-eq-of-lt small)) ∙ r .1,
-      lower j (pow-lt-back 149 (1 + (24 + j)) (lt-of-le-of-lt lo (doubled q j (with-lead t T23)))),
-      upper j (pow-lt-back (23 + j) 162 (lt-of-le-of-lt (le-trans (le-of-eq (pow-add 2 23 j)) (mul-le-mul-right (2 ^ j) (le-add-right (2 ^ 23) t))) hi)),
+      lower j (pow-below 149 (1 + (24 + j)) (lt-of-le-of-lt lo (doubled q j (with-lead t T23)))),
+      upper j (pow-below (23 + j) 162 (lt-of-le-of-lt (le-trans (le-of-eq (pow-add 2 23 j)) (mul-le-mul-right (2 ^ j) (le-add-right (2 ^ 23) t))) hi)),
       whole-part 32 x (i .0)
           ∙ uncapped (num x / den x) (2 ^ 32) (lt-of-lt-of-le (div-lt-iff-lt-mul (den-pos x) .1 (i .2)) (lit≤ tt))
           ∙ div-same (num x) (den x) (q * 2 ^ j) (2 ^ 149) (den-pos x) (pow-pos 149) v,

@@ -1,7 +1,7 @@
 -- Natural numbers: which of two is less, powers of two, and the last twelve binary digits. Assumes nothing.
 use mathlib.Core.Path.{_≡_, refl, _∙_, ap}
 use mathlib.Core.Bool.{Bool, true, false}
-use mathlib.Core.Logic.{_⊎_, inl, inr}
+use mathlib.Core.Logic.{_⊎_, inl, inr, ⊎-elim}
 use Prim.Native.Nat.{ℕ, _^_, _≤_, _<_}
 use native.Mathlib.Omega.{arith}
 use native.Mathlib.Nat as N
@@ -24,6 +24,9 @@ either m n = go (leb m n) refl
 
 pub pow-le : {i j : ℕ} → i ≤ j → 2 ^ i ≤ 2 ^ j
 pow-le h = N.pow-le-pow-right (N.zero-lt-suc 1) h
+
+pub pow-below : (i k : ℕ) → 2 ^ i < 2 ^ k → i < k
+pow-below i k h = ⊎-elim (λ (l : k ≤ i). let g = pow-le {i = k} {j = i} l in absurd (omega arith)) (λ l. l) (either k i)
 
 -- ---- the last twelve digits
 pub low-back : (z : ℤ) → toZ w32 (bitAnd (ofZ w32 z) 4095) ≡ pos (bitAnd (ofZ w32 z) 4095)

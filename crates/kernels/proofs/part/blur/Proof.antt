@@ -2,11 +2,11 @@
 use borrow.Author.Needs.{needs}
 use native.Mathlib.Omega.{arith}
 use Prim.Native.Nat.{ℕ, _≤_}
-use lib.IntN.{ℤ, pos, natAbs, _+ℤ_, _*ℤ_}
+use lib.IntN.{ℤ, pos, _+ℤ_, _*ℤ_}
 use lib.Signed.{shrZ}
 use mir.Syntax.{w32}
 use mir.Val.{SFits}
-use Rattle.zint.proofs.Bound.{Bound, b-pos, b-add, b-mul, b-shr, b-fits}
+use Rattle.zint.proofs.Bound.{b-abs, b-pos, b-add, b-mul, b-shr, b-fits}
 use Rattle.kernels.specs.Kernel.{taps5}
 use Rattle.kernels.proofs.part.blur.Statement.{statement}
 use Rattle.kernels.proofs.part.blur.Tie as tie
@@ -23,9 +23,6 @@ record Fit (k0 k1 k2 k3 k4 a b c d e : ℤ) : Type 0 where
   s4 : SFits w32 (k0 *ℤ a +ℤ k1 *ℤ b +ℤ k2 *ℤ c +ℤ k3 *ℤ d +ℤ k4 *ℤ e)
   s5 : (h : ℕ) → h ≤ 8 → SFits w32 (k0 *ℤ a +ℤ k1 *ℤ b +ℤ k2 *ℤ c +ℤ k3 *ℤ d +ℤ k4 *ℤ e +ℤ pos h)
   q : (h : ℕ) → h ≤ 8 → SFits w32 (shrZ (k0 *ℤ a +ℤ k1 *ℤ b +ℤ k2 *ℤ c +ℤ k3 *ℤ d +ℤ k4 *ℤ e +ℤ pos h) 16)
-
-b-abs : {m : ℕ} {z : ℤ} → natAbs z ≤ m → Bound m z
-b-abs h = record { most = h }
 
 fit : (c : tie.Start) → Fit (c .args .k0) (c .args .k1) (c .args .k2) (c .args .k3) (c .args .k4) (c .args .a) (c .args .b) (c .args .c) (c .args .d) (c .args .e)
 fit c =
