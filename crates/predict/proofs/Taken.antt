@@ -22,7 +22,7 @@ use Rattle.predict_row.specs.Mixed.{Luma, MixOf}
 use Rattle.predict_row.specs.Runs.{at}
 use Rattle.predict_row.specs.Sample.{total, clipped}
 use Rattle.predict_row.specs.declared.mix.Mix.{Mix}
-use Rattle.predict_rules.specs.Needed.{valueAt, before, centreAt, directionAt}
+use Rattle.predict_rules.specs.Needed.{before, centreAt, directionAt}
 use Rattle.predict_rules.specs.Placed.{Placed}
 use Rattle.predict_rules.specs.Rules.{isLumaInRange}
 use Rattle.predict_rules.specs.declared.block.Block.{Block}
@@ -99,16 +99,19 @@ module _ (b : Block) (n : ℕ) (g : Placed b n) where
   unfolding leadOf
   lead-one = at-most (b .«have_left») (columns-one (theColour (b .direction)))
 
+  -- luma of the block's depth
+  luma-of : (k : Mix) (v : ℤ) → k .bits ≡ b .d → inside (pos (8 * most (b .d) + 7)) v ≡ true → Luma k v
+  luma-of k v d h = subst (λ D. inside (pos (8 * most D + 7)) v ≡ true) (sym d) h
+
   pub line-of : (k : Mix) (luma : List ℤ) → n ≡ length luma → k .bits ≡ b .d → isLumaInRange (entry luma) b ≡ true → (j : ℕ) → j < b .height
       → LumaRow k luma (startOf b j) (stepOf b j) (leadOf b) (b .width)
-  line-of k luma e d r j h =
-      record {
-        leads = omega (arith, lead-one, g .wide);
-        behind = step-behind j;
-        long = omega (arith, g .across, g .down, g .long);
-        near-in = λ i l. subst (Luma k) (ap (at luma) (sym (tap-is i j))) (subst (λ D. inside (pos (8 * most D + 7)) (valueAt (entry luma) (directionAt b i j)) ≡ true) (sym d) (shown b (entry luma) r i j l h .1));
-        centre-in = λ i l. subst (Luma k) (ap (at luma) (sym (centre-is i j))) (subst (λ D. inside (pos (8 * most D + 7)) (valueAt (entry luma) (centreAt b i j)) ≡ true) (sym d) (shown b (entry luma) r i j l h .0));
-      }
+  line-of k luma e d r j h = record {
+    leads = omega (arith, lead-one, g .wide);
+    behind = step-behind j;
+    long = omega (arith, g .across, g .down, g .long);
+    near-in = λ i l. subst (Luma k) (ap (at luma) (sym (tap-is i j))) (luma-of k _ d (shown b (entry luma) r i j l h .1));
+    centre-in = λ i l. subst (Luma k) (ap (at luma) (sym (centre-is i j))) (luma-of k _ d (shown b (entry luma) r i j l h .0));
+  }
 
   -- what the code finds is the definition's sample
   pub found-is : (k : Mix) (luma : List ℤ) (p0 p1 p2 : ℤ) → MixOf (b .d) p0 p1 p2 k → (r c : ℕ)

@@ -2,5 +2,6 @@
 pub mod Before
 pub mod Granted
 pub mod Shown
+pub mod Bounds
 pub mod Reach
 pub mod Whole

@@ -1,6 +1,6 @@
 -- The area of luma that a block needs, entry by entry: each of its entries is needed at some place, and what a place needs lies in it. Assumes nothing.
 use mathlib.Core.Path.{_≡_, refl}
-use mathlib.Core.Bool.{Bool, true, false, cond}
+use mathlib.Core.Bool.{Bool, true, false}
 use mathlib.Core.Logic.{_⊎_, inl, inr}
 use Prim.Native.Nat.{ℕ, zero, suc, _+_, _-_, _*_, _≤_, _<_}
 use native.Mathlib.Omega.{arith}
@@ -9,10 +9,11 @@ use Rattle.numbers.specs.declared.colour.ColourDirection.{ColourDirection}
 use Rattle.numbers.specs.declared.colour.ColourDirection.the-variants.{Centre, Above, Left}
 use Rattle.terms.specs.Terms.{stride}
 use Rattle.predict_rules.specs.Needed.{Place, before, centreAt, directionAt}
-use Rattle.predict_rules.specs.Area.{upOf, besideOf, Area}
+use Rattle.predict_rules.specs.Area.{upOf, besideOf}
 use Rattle.predict_rules.specs.Placed.{Placed}
 use Rattle.predict_rules.specs.declared.block.Block.{Block}
-use Rattle.predict_rules.proofs.Before.{stays, inner, rows-one, columns-one}
+use Rattle.predict_rules.proofs.Before.{stays, inner}
+use Rattle.predict_rules.proofs.Bounds.{reach, no-reach, reach-most}
 
 -- a place as an entry of the list
 abbrev pub entryOf : Place → ℕ
@@ -49,46 +50,30 @@ module _ (b : Block) where
   abbrev placeBy : ColourDirection → Bool → Bool → ℕ → ℕ → Place
   placeBy c t l i j = record { x = before l left (columnsLeft c) i; y = before t top (rowsUp c) j }
 
-  -- how far the area reaches, of a direction that goes `back` lines
-  abbrev reach : Bool → ℕ → ℕ
-  reach there back = cond there back 0
-
-  no-reach : (there : Bool) → reach there 0 ≡ 0
-  no-reach true = refl
-  no-reach false = refl
-
 module _ (b : Block) (n : ℕ) (g : Placed b n) where
-  -- the area lies in the list
-  pub area : (u e : ℕ) → u ≤ top b → e ≤ left b → u ≤ 1 → Area ((top b - u) * stride + (left b - e)) (b .width + e) (b .height + u) n
-  area u e hu he one = record {
-    lies = λ j h. omega (arith, g .across, g .down, g .long);
-    starts = omega (arith, g .down, g .lines, g .high, g .across, g .wide);
-    high = omega (arith, g .high);
-  }
-
   centred : (d : ℕ → ℕ → Place) (u e y x : ℕ) → u ≡ 0 → e ≡ 0 → y < b .height + u → x < b .width + e → Wanted b d (cell b u e y x)
   centred d u e y x z w p q = record { i = x; j = y; wide = omega arith; high = omega arith; is = inl (omega arith) }
 
   wanted : (c : ColourDirection) (t l : Bool) → (t ≡ true → 1 ≤ top b) → (l ≡ true → 1 ≤ left b) → (y x : ℕ)
-      → y < b .height + reach b t (rowsUp c) → x < b .width + reach b l (columnsLeft c)
-      → Wanted b (placeBy b c t l) (cell b (reach b t (rowsUp c)) (reach b l (columnsLeft c)) y x)
-  wanted Centre t l a e y x p q = centred _ _ _ y x (no-reach b t) (no-reach b l) p q
+      → y < b .height + reach t (rowsUp c) → x < b .width + reach l (columnsLeft c)
+      → Wanted b (placeBy b c t l) (cell b (reach t (rowsUp c)) (reach l (columnsLeft c)) y x)
+  wanted Centre t l a e y x p q = centred _ _ _ y x (no-reach t) (no-reach l) p q
   wanted Above true l a e zero x p q =
-      let z = no-reach b l in
+      let z = no-reach l in
       record { i = x; j = 0; wide = omega arith; high = omega (arith, g .high); is = inr (omega (arith, stays l (left b) x)) }
   wanted Above true l a e (suc y) x p q =
-      let z = no-reach b l in
+      let z = no-reach l in
       let k = a refl in
       record { i = x; j = y; wide = omega arith; high = omega arith; is = inl (omega arith) }
-  wanted Above false l a e y x p q = centred _ _ _ y x refl (no-reach b l) p q
+  wanted Above false l a e y x p q = centred _ _ _ y x refl (no-reach l) p q
   wanted Left t true a e y zero p q =
-      let z = no-reach b t in
+      let z = no-reach t in
       record { i = 0; j = y; wide = omega (arith, g .wide); high = omega arith; is = inr (omega (arith, stays t (top b) y)) }
   wanted Left t true a e y (suc x) p q =
-      let z = no-reach b t in
+      let z = no-reach t in
       let k = e refl in
       record { i = x; j = y; wide = omega arith; high = omega arith; is = inl (omega arith) }
-  wanted Left t false a e y x p q = centred _ _ _ y x (no-reach b t) refl p q
+  wanted Left t false a e y x p q = centred _ _ _ y x (no-reach t) refl p q
 
   -- what stands at a row y and a column x from the block's own corner on, as the area has it
   inside-at : (u e : ℕ) → u ≤ top b → e ≤ left b → (y x p : ℕ) → x < b .width → y < b .height → p ≡ (top b + y) * stride + (left b + x) → Within b u e p
@@ -97,16 +82,12 @@ module _ (b : Block) (n : ℕ) (g : Placed b n) where
   pub centre-within : (u e : ℕ) → u ≤ top b → e ≤ left b → (i j : ℕ) → i < b .width → j < b .height → Within b u e (entryOf (centreAt b i j))
   centre-within u e hu he i j p q = inside-at u e hu he j i _ p q refl
 
-  reach-most : (there : Bool) (back lines : ℕ) → back ≤ 1 → (there ≡ true → 1 ≤ lines) → reach b there back ≤ lines
-  reach-most true back lines h k = omega (arith, k refl)
-  reach-most false back lines h k = omega arith
-
   within : (c : ColourDirection) (t l : Bool) → (t ≡ true → 1 ≤ top b) → (l ≡ true → 1 ≤ left b) → (i j : ℕ)
-      → i < b .width → j < b .height → Within b (reach b t (rowsUp c)) (reach b l (columnsLeft c)) (entryOf (placeBy b c t l i j))
+      → i < b .width → j < b .height → Within b (reach t (rowsUp c)) (reach l (columnsLeft c)) (entryOf (placeBy b c t l i j))
   within Centre t l a e i j p q =
       inside-at _ _ (reach-most t 0 (top b) (omega arith) a) (reach-most l 0 (left b) (omega arith) e) j i _ p q (omega (arith, stays t (top b) j, stays l (left b) i))
   within Above true l a e i zero p q =
-      let z = no-reach b l in
+      let z = no-reach l in
       let k = a refl in
       record { y = 0; x = i; wide = omega arith; high = omega arith; is = omega (arith, stays l (left b) i) }
   within Above false l a e i zero p q =
@@ -114,30 +95,13 @@ module _ (b : Block) (n : ℕ) (g : Placed b n) where
   within Above t l a e i (suc j) p q =
       inside-at _ _ (reach-most t 1 (top b) (omega arith) a) (reach-most l 0 (left b) (omega arith) e) j i _ p (omega arith) (omega (arith, inner t (top b) j, stays l (left b) i))
   within Left t true a e zero j p q =
-      let z = no-reach b t in
+      let z = no-reach t in
       let k = e refl in
       record { y = j; x = 0; wide = omega arith; high = omega arith; is = omega (arith, stays t (top b) j) }
   within Left t false a e zero j p q =
       inside-at _ _ (reach-most t 0 (top b) (omega arith) a) (omega arith) j 0 _ p q (omega (arith, stays t (top b) j))
   within Left t l a e (suc i) j p q =
       inside-at _ _ (reach-most t 0 (top b) (omega arith) a) (reach-most l 1 (left b) (omega arith) e) j i _ (omega arith) q (omega (arith, stays t (top b) j, inner l (left b) i))
-
-  -- the area's reach above and before
-  pub up-one : upOf b ≤ 1
-  unfolding upOf
-  up-one = reach-most (b .«have_top») (rowsUp (theColour (b .direction))) 1 (rows-one (theColour (b .direction))) (λ e. omega arith)
-
-  pub beside-one : besideOf b ≤ 1
-  unfolding besideOf
-  beside-one = reach-most (b .«have_left») (columnsLeft (theColour (b .direction))) 1 (columns-one (theColour (b .direction))) (λ e. omega arith)
-
-  pub up-most : upOf b ≤ top b
-  unfolding upOf
-  up-most = reach-most (b .«have_top») (rowsUp (theColour (b .direction))) (top b) (rows-one (theColour (b .direction))) (g .top)
-
-  pub beside-most : besideOf b ≤ left b
-  unfolding besideOf
-  beside-most = reach-most (b .«have_left») (columnsLeft (theColour (b .direction))) (left b) (columns-one (theColour (b .direction))) (g .side)
 
   pub wanted-at : (y x : ℕ) → y < b .height + upOf b → x < b .width + besideOf b → Wanted b (directionAt b) (cell b (upOf b) (besideOf b) y x)
   unfolding upOf besideOf directionAt

@@ -17,7 +17,8 @@ use Rattle.predict_rules.specs.Area.{upOf, besideOf}
 use Rattle.predict_rules.specs.Placed.{Placed}
 use Rattle.predict_rules.specs.declared.block.Block.{Block}
 use Rattle.predict_rules.proofs.Shown.{shown}
-use Rattle.predict_rules.proofs.Reach.{cell, Wanted, Within, up-most, beside-most, wanted-at, within-at, centre-within}
+use Rattle.predict_rules.proofs.Bounds.{up-most, beside-most}
+use Rattle.predict_rules.proofs.Reach.{cell, Wanted, Within, wanted-at, within-at, centre-within}
 
 module _ (b : Block) (n : ℕ) (g : Placed b n) (luma : List ℤ) where
   abbrev test : ℕ → Bool

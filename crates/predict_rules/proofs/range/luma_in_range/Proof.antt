@@ -13,7 +13,8 @@ use Rattle.zint.specs.Range.{inside}
 use Rattle.zint.proofs.Bound.{sfits-abs}
 use Rattle.line.specs.Every.{every}
 use Rattle.terms.proofs.Most.{most-all}
-use Rattle.predict_rules.proofs.Reach.{cell, area, up-one, beside-one, up-most, beside-most}
+use Rattle.predict_rules.proofs.Bounds.{area, up-one, beside-one, up-most, beside-most}
+use Rattle.predict_rules.proofs.Reach.{cell}
 use Rattle.predict_rules.proofs.Whole.{whole}
 use Rattle.predict_rules.proofs.range.luma_in_range.Statement.{statement}
 use Rattle.predict_rules.proofs.range.luma_in_range.Tie as tie
