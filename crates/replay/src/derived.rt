@@ -1,83 +1,53 @@
 // A case of `derive_params` (document 01, Colour parameters): its lists as long as the case says, its answer's number, and what the list of parameters
 // holds afterwards.
 use crate::colour;
-use crate::colour::Head;
-use crate::refs;
+use crate::line;
 use crate::room;
-use numbers::answer::Answer;
+use series::first;
+use series::same;
 
-// The call's answer, on the first nl, nc and np entries of the lists.
-fn answer(
-    h: Head,
-    luma: &[i32],
-    nl: usize,
-    chroma: &[i32],
-    nc: usize,
-    params: &mut [i32],
-    np: usize,
-) -> Answer {
-    let start = 0;
-    if luma.len() < nl {
-        return Answer::ShortList;
-    }
-    if chroma.len() < nc {
-        return Answer::ShortList;
-    }
-    if params.len() < np {
-        return Answer::ShortList;
-    }
-    derive::derive_into(
-        &luma[start..nl],
-        &chroma[start..nc],
-        h.w,
-        h.direction,
-        h.d,
-        &mut params[start..np],
-    )
+// The call's answer's number.
+fn call(s: &[u8], at: usize, luma: &[i32], chroma: &[i32], params: &mut [i32]) -> u32 {
+    let w = colour::window_at(s, at);
+    let d = line::number(s, at, 0);
+    let direction = line::number(s, at, 1);
+    derive::derive_into(luma, chroma, w, direction, d, params).number()
 }
 
-// Whether a derivation's case agrees. The four lists are room to work in.
-fn derivation_agrees(
+// The same, on the lists' first entries.
+fn answer(s: &[u8], at: usize, luma: &[i32], chroma: &[i32], params: &mut [i32]) -> u32 {
+    let from = 0;
+    let to = first::within(line::size(s, at, 8), params.len());
+    let first_luma = first::entries(luma, line::size(s, at, 6));
+    let first_chroma = first::entries(chroma, line::size(s, at, 7));
+    call(s, at, first_luma, first_chroma, &mut params[from..to])
+}
+
+// A list's first rows and columns from a place on, and the place after them.
+fn read(s: &[u8], at: usize, from: usize, list: &mut [i32]) -> usize {
+    colour::corner(s, from, line::size(s, at, 10), line::size(s, at, 11), list)
+}
+
+// Whether a case agrees. The three lists are room to work in.
+fn case_agrees(
     s: &[u8],
     at: usize,
     luma: &mut [i32],
     chroma: &mut [i32],
-    due: &mut [i32],
     params: &mut [i32],
 ) -> bool {
-    let h = colour::read_head(s, at);
-    let l = text::number(s, h.next);
-    let c = text::number(s, l.next);
-    let p = text::number(s, c.next);
-    let number = text::number(s, p.next);
-    let rows = text::number(s, number.next);
-    let columns = text::number(s, rows.next);
-    let start = 0;
-    let nl = l.value as usize;
-    let nc = c.value as usize;
-    let np = p.value as usize;
-    let nr = rows.value as usize;
-    let nk = columns.value as usize;
-    if luma.len() < nl || chroma.len() < nc {
+    let past_luma = read(s, at, line::past(s, at, 12), luma);
+    let next = read(s, at, past_luma, chroma);
+    if answer(s, at, luma, chroma, params) != line::number(s, at, 9) {
         return false;
     }
-    if due.len() < np {
-        return false;
-    }
-    let past_luma = colour::corner(s, columns.next, nr, nk, luma);
-    let past_chroma = colour::corner(s, past_luma, nr, nk, chroma);
-    let past = colour::words(s, past_chroma, &mut due[start..np]);
-    if answer(h, luma, nl, chroma, nc, params, np).number() != number.value {
-        return false;
-    }
-    colour::ends(s, past) && refs::same_entries(params, due, np)
+    line::ends(s, same::entries(s, next, params, line::size(s, at, 8)))
 }
 
 // Whether the case at a place agrees.
 pub fn agrees(s: &[u8], at: usize) -> bool {
     let mut luma = room::window();
     let mut chroma = room::window();
-    let mut due = room::entries();
     let mut params = room::entries();
-    derivation_agrees(s, at, &mut luma, &mut chroma, &mut due, &mut params)
+    case_agrees(s, at, &mut luma, &mut chroma, &mut params)
 }

@@ -1,8 +1,7 @@
 // A file of the list: each line that is no comment is a case.
-use crate::case;
 use crate::derived;
-use crate::directed;
 use crate::predicted;
+use crate::predictors;
 use crate::refs;
 use crate::runs;
 
@@ -31,11 +30,10 @@ impl Tally {
 fn agrees(s: &[u8], at: usize, letter: u8) -> bool {
     match letter {
         b'R' => refs::agrees(s, at),
-        b'D' => directed::agrees(s, at),
         b'C' => derived::agrees(s, at),
         b'B' => predicted::agrees(s, at),
         b'J' => runs::agrees(s, at),
-        _ => case::agrees(s, at, letter),
+        _ => predictors::agrees(s, at, letter),
     }
 }
 

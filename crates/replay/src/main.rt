@@ -1,15 +1,13 @@
 // Replays the list of the original's answers, data/*.txt (oracle/record made it), and prints how many cases there are and how many differ.
-mod case;
 mod colour;
 mod derived;
-mod directed;
-mod lent;
+mod line;
 mod list;
 mod predicted;
+mod predictors;
 mod refs;
 mod room;
 mod runs;
-mod words;
 
 use crate::list::Tally;
 use libc::STDOUT_FILENO;

@@ -1,104 +1,64 @@
 // A case of `build_refs`: its edges and its corner are held against what the Rust gave.
+use crate::line;
 use crate::room;
 use edges::spec::IntraRefSpec;
+use series::fill;
+use series::first;
+use series::same;
 
-// Whether two lists begin with the same n entries.
-pub fn same_entries(a: &[i32], b: &[i32], n: usize) -> bool {
-    if a.len() < n {
-        return false;
-    }
-    if b.len() < n {
-        return false;
-    }
-    let mut i = 0;
-    while i < n {
-        if a[i] == b[i] {
-            i += 1;
-        } else {
-            return false;
-        }
-    }
-    true
-}
-
-fn word(s: &[u8], at: usize) -> u16 {
-    let t = text::number(s, at);
-    (t.value % 65536) as u16
-}
-
-// The place after n numbers.
-fn past(s: &[u8], at: usize, n: usize) -> usize {
-    let mut i = at;
-    let mut c = 0;
-    while c < n {
-        let t = text::number(s, i);
-        i = t.next;
-        c += 1;
-    }
-    i
-}
-
-// The eleven numbers of a block and its neighbours, in the list's order.
+// The eleven numbers of a block and its neighbours, in the list's order, after the plane's two.
 fn spec_at(s: &[u8], at: usize) -> IntraRefSpec {
     IntraRefSpec {
-        x: word(s, at),
-        y: word(s, past(s, at, 1)),
-        b: word(s, past(s, at, 2)),
-        d: word(s, past(s, at, 3)),
-        have_above: word(s, past(s, at, 4)) == 1,
-        have_left: word(s, past(s, at, 5)) == 1,
-        top_right: word(s, past(s, at, 6)),
-        bottom_left: word(s, past(s, at, 7)),
-        available_above: word(s, past(s, at, 8)),
-        available_left: word(s, past(s, at, 9)),
-        base: word(s, past(s, at, 10)),
+        x: line::word(s, at, 2),
+        y: line::word(s, at, 3),
+        b: line::word(s, at, 4),
+        d: line::word(s, at, 5),
+        have_above: line::flag(s, at, 6),
+        have_left: line::flag(s, at, 7),
+        top_right: line::word(s, at, 8),
+        bottom_left: line::word(s, at, 9),
+        available_above: line::word(s, at, 10),
+        available_left: line::word(s, at, 11),
+        base: line::word(s, at, 12),
     }
 }
 
-// Whether the edges and the corner are those that stand in the list at a place.
+// Whether the edges and the corner are those that stand in the list at a place, and nothing after them.
 fn refs_are(s: &[u8], at: usize, above: &[i32], left: &[i32], corner: &[i32]) -> bool {
-    let mut due = room::entries();
-    let past_above = text::entries(s, at, &mut due);
-    if !same_entries(above, &due, 128) {
-        return false;
-    }
-    let past_left = text::entries(s, past_above, &mut due);
-    if !same_entries(left, &due, 128) {
-        return false;
-    }
-    text::entries(s, past_left, &mut due);
-    same_entries(corner, &due, 1)
+    let past_above = same::entries(s, at, above, 128);
+    let past_left = same::entries(s, past_above, left, 128);
+    line::ends(s, same::entries(s, past_left, corner, 1))
 }
 
-fn plane_agrees(s: &[u8], at: usize, plane: &mut [f32]) -> bool {
-    let width = (word(s, at) % 4097) as usize;
-    let height = (word(s, past(s, at, 1)) % 4097) as usize;
-    let n = room::area(width, height);
-    let start = 0;
-    if plane.len() < n {
-        return false;
-    }
-    let spec = spec_at(s, past(s, at, 2));
-    let after = text::samples_by_bits(s, past(s, at, 13), &mut plane[start..n]);
+// Whether the call is done.
+fn built(
+    s: &[u8],
+    at: usize,
+    plane: &[f32],
+    above: &mut [i32],
+    left: &mut [i32],
+    corner: &mut [i32],
+) -> bool {
+    let width = line::size(s, at, 0);
+    let height = line::size(s, at, 1);
+    edges::build_refs(plane, width, height, spec_at(s, at), above, left, corner).is_done()
+}
+
+// Whether the edges of a plane are those that stand after it.
+fn edges_agree(s: &[u8], at: usize, next: usize, plane: &[f32]) -> bool {
     let mut above = room::entries();
     let mut left = room::entries();
     let mut corner = [0; 1];
-    if !edges::build_refs(
-        &plane[start..n],
-        width,
-        height,
-        spec,
-        &mut above,
-        &mut left,
-        &mut corner,
-    ).is_done() {
+    if !built(s, at, plane, &mut above, &mut left, &mut corner) {
         return false;
     }
-    refs_are(s, after, &above, &left, &corner)
+    refs_are(s, next, &above, &left, &corner)
 }
 
 // Whether the case at a place agrees.
 pub fn agrees(s: &[u8], at: usize) -> bool {
+    let n = room::area(line::word(s, at, 0), line::word(s, at, 1));
     let mut plane = room::plane();
-    plane_agrees(s, at, &mut plane)
+    let next = fill::samples_by_bits(s, line::past(s, at, 13), &mut plane, n);
+    edges_agree(s, at, next, first::samples(&plane, n))
 }

@@ -1,6 +1,5 @@
 // Room to work in: an edge, a block, a plane, sixteen rows of a colour window, a small plan.
 ghost use mathlib.Core.Path.{_≡_};
-ghost use Prim.Native.Nat.{_<_};
 ghost use lib.ListN.{length};
 
 pub fn entries() -> [i32; 128]
@@ -47,8 +46,6 @@ pub fn unanswered() -> [u16; 128]
 }
 
 // How many samples a plane or a block has.
-pub fn area(width: usize, height: usize) -> usize
-    requires { ⌜ (width < 4097) × (height < 4097) ⌝ }
-{
-    width * height
+pub fn area(width: u16, height: u16) -> usize {
+    width as usize * height as usize
 }

@@ -1,89 +1,92 @@
 // A case of `run` (document 01, Refusal numbers, in order of checking): its lists as long as the case says, its answer's number, and what the answers
 // and the plane hold afterwards.
-use crate::case;
-use crate::colour;
-use crate::lent;
-use crate::lent::Sizes;
+use crate::line;
 use crate::room;
-use crate::words;
-use numbers::answer::Answer;
+use series::fill;
+use series::first;
+use series::same;
 
-// The call's answer, on the lists' first entries.
-fn answer(
-    z: Sizes,
+// The call's answer's number.
+fn run(
+    s: &[u8],
+    at: usize,
     plane: &mut [f32],
     plan: &[u16],
     order: &[u16],
     differences: &[i16],
     answers: &mut [u16],
-) -> Answer {
-    let start = 0;
-    let samples = z.samples;
-    let nw = z.words;
-    let no = z.order;
-    let nd = z.differences;
-    let na = z.answers;
-    if plane.len() < samples || plan.len() < nw {
-        return Answer::ShortList;
-    }
-    if order.len() < no || differences.len() < nd {
-        return Answer::ShortList;
-    }
-    if answers.len() < na {
-        return Answer::ShortList;
-    }
-    plan::run(
-        &mut plane[start..samples],
-        z.width,
-        z.height,
-        &plan[start..nw],
-        &order[start..no],
-        &differences[start..nd],
-        &mut answers[start..na],
-    )
+) -> u32 {
+    let width = line::size(s, at, 0);
+    let height = line::size(s, at, 1);
+    plan::run(plane, width, height, plan, order, differences, answers).number()
 }
 
-// Whether answers and plane begin as the list has it at a place; the last two lists are room for what it has.
-fn same_as(
+// The same, on the first entries of plane and answers.
+fn run_in_room(
     s: &[u8],
     at: usize,
-    answers: &[u16],
-    na: usize,
-    plane: &[f32],
-    np: usize,
-    due_answers: &mut [u16],
-    due_plane: &mut [f32],
-) -> bool {
-    let start = 0;
-    if due_answers.len() < na || due_plane.len() < np {
-        return false;
-    }
-    let past_answers = words::words(s, at, &mut due_answers[start..na]);
-    let past = text::whole_samples(s, past_answers, &mut due_plane[start..np]);
-    if !colour::ends(s, past) {
-        return false;
-    }
-    words::same_words(answers, due_answers, na) && case::same_samples(plane, due_plane, np)
-}
-
-// Whether the first entries of answers and plane are those that stand in the list at a place.
-fn left_as(s: &[u8], at: usize, answers: &[u16], na: usize, plane: &[f32], np: usize) -> bool {
-    let mut due_answers = room::words();
-    let mut due_plane = room::plane();
-    same_as(
+    plane: &mut [f32],
+    plan: &[u16],
+    order: &[u16],
+    differences: &[i16],
+    answers: &mut [u16],
+) -> u32 {
+    let from = 0;
+    let samples = first::within(line::size(s, at, 2), plane.len());
+    let jobs = first::within(line::size(s, at, 6), answers.len());
+    run(
         s,
         at,
-        answers,
-        na,
-        plane,
-        np,
-        &mut due_answers,
-        &mut due_plane,
+        &mut plane[from..samples],
+        plan,
+        order,
+        differences,
+        &mut answers[from..jobs],
     )
+}
+
+// The same, on the first entries of the others.
+fn answer(
+    s: &[u8],
+    at: usize,
+    plane: &mut [f32],
+    plan: &[u16],
+    order: &[u16],
+    differences: &[i16],
+    answers: &mut [u16],
+) -> u32 {
+    let rows = first::words(plan, line::size(s, at, 3));
+    let jobs = first::words(order, line::size(s, at, 4));
+    let values = first::differences(differences, line::size(s, at, 5));
+    run_in_room(s, at, plane, rows, jobs, values, answers)
+}
+
+// Whether the first entries of answers and plane are those that stand in the list at a place, and nothing after them.
+fn left_as(s: &[u8], at: usize, next: usize, answers: &[u16], plane: &[f32]) -> bool {
+    let past_answers = same::words(s, next, answers, line::size(s, at, 6));
+    line::ends(
+        s,
+        same::samples(s, past_answers, plane, line::size(s, at, 2)),
+    )
+}
+
+// Fills plane, plan, order and differences, and returns the place after them.
+fn read_lists(
+    s: &[u8],
+    at: usize,
+    plane: &mut [f32],
+    plan: &mut [u16],
+    order: &mut [u16],
+    differences: &mut [i16],
+) -> usize {
+    let past_plane = fill::samples(s, line::past(s, at, 8), plane, line::size(s, at, 2));
+    let past_plan = fill::words(s, past_plane, plan, line::size(s, at, 3));
+    let past_order = fill::words(s, past_plan, order, line::size(s, at, 4));
+    fill::differences(s, past_order, differences, line::size(s, at, 5))
 }
 
 // Whether a run's case agrees. The five lists are room to work in.
-fn run_agrees(
+fn case_agrees(
     s: &[u8],
     at: usize,
     plane: &mut [f32],
@@ -92,12 +95,11 @@ fn run_agrees(
     differences: &mut [i16],
     answers: &mut [u16],
 ) -> bool {
-    let z = lent::read_sizes(s, at);
-    let past = lent::read_lists(s, z, plane, plan, order, differences);
-    if answer(z, plane, plan, order, differences, answers).number() != z.number {
+    let next = read_lists(s, at, plane, plan, order, differences);
+    if answer(s, at, plane, plan, order, differences, answers) != line::number(s, at, 7) {
         return false;
     }
-    left_as(s, past, answers, z.answers, plane, z.samples)
+    left_as(s, at, next, answers, plane)
 }
 
 // Whether the case at a place agrees.
@@ -107,7 +109,7 @@ pub fn agrees(s: &[u8], at: usize) -> bool {
     let mut order = room::words();
     let mut differences = room::differences();
     let mut answers = room::unanswered();
-    run_agrees(
+    case_agrees(
         s,
         at,
         &mut plane,

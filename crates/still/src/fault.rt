@@ -1,21 +1,6 @@
 // What is wrong with a file: one line on standard error, with the file's name, in the form of `os::fail`.
+use greymap::fault::Fault;
 use libc::STDERR_FILENO;
-
-// The numbers are the wrong sample's, from 1 on.
-pub enum Fault {
-    Empty,
-    TooLong,
-    NoGreymap,
-    NoHeader,
-    BadWidth,
-    BadHeight,
-    BadLargest,
-    NoRoom,
-    NoSample(usize),
-    TooBright(usize),
-    Short(usize),
-    TooMuch,
-}
 
 fn say(s: &[u8]) {
     io::write_all(STDERR_FILENO, s);
@@ -32,22 +17,41 @@ pub fn tell_usage() {
     say(b"usage: still [FILE.pgm]\n");
 }
 
-pub fn tell(name: &[u8], fault: Fault) {
-    say(name);
-    say(b": ");
+// What is wrong with the whole text.
+fn tell_text(fault: Fault) {
     match fault {
         Fault::Empty => say(b"empty, or it cannot be read"),
         Fault::TooLong => say(b"65536 bytes or more, too long"),
         Fault::NoGreymap => say(b"no plain greymap, it does not begin with P2"),
+        Fault::NoRoom => say(b"too many samples for the room there is"),
+        _ => say(b"more follows after its last sample"),
+    }
+}
+
+// What is wrong with its header.
+fn tell_header(fault: Fault) {
+    match fault {
         Fault::NoHeader => say(b"no width, height and largest value after P2"),
         Fault::BadWidth => say(b"its width is not 8, 16, 24 and so on to 64"),
         Fault::BadHeight => say(b"its height is not 8, 16, 24 and so on to 64"),
         Fault::BadLargest => say(b"its largest value is not 255, 1023 or 4095"),
-        Fault::NoRoom => say(b"too many samples for the room there is"),
+        _ => tell_text(fault),
+    }
+}
+
+// What is wrong with a sample.
+fn tell_sample(fault: Fault) {
+    match fault {
         Fault::NoSample(n) => counted(b"sample ", n, b" is no whole number"),
         Fault::TooBright(n) => counted(b"sample ", n, b" is above its largest value"),
         Fault::Short(n) => counted(b"it ends before sample ", n, b""),
-        Fault::TooMuch => say(b"more follows after its last sample"),
+        _ => tell_header(fault),
     }
+}
+
+pub fn tell(name: &[u8], fault: Fault) {
+    say(name);
+    say(b": ");
+    tell_sample(fault);
     say(b"\n");
 }

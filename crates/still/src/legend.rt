@@ -32,13 +32,19 @@ pub fn print_name(line: u8) {
         1 => print::say(b"smooth                  "),
         2 => print::say(b"smooth_v                "),
         3 => print::say(b"smooth_h                "),
-        4 => print::say(b"V     81 to  99 degrees "),
-        5 => print::say(b"H    171 to 189 degrees "),
-        6 => print::say(b"D45   36 to  54 degrees "),
-        7 => print::say(b"D135 126 to 144 degrees "),
-        8 => print::say(b"D113 104 to 122 degrees "),
-        9 => print::say(b"D157 148 to 166 degrees "),
-        10 => print::say(b"D203 194 to 212 degrees "),
+        _ => print_direction(line - 4),
+    }
+}
+
+fn print_direction(direction: u8) {
+    match direction {
+        0 => print::say(b"V     81 to  99 degrees "),
+        1 => print::say(b"H    171 to 189 degrees "),
+        2 => print::say(b"D45   36 to  54 degrees "),
+        3 => print::say(b"D135 126 to 144 degrees "),
+        4 => print::say(b"D113 104 to 122 degrees "),
+        5 => print::say(b"D157 148 to 166 degrees "),
+        6 => print::say(b"D203 194 to 212 degrees "),
         _ => print::say(b"D67   58 to  76 degrees "),
     }
 }

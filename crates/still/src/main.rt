@@ -1,24 +1,17 @@
 // Reads a finish-line still, a plain greymap: the one that ships, or the one that is named. Finds for each block the predictor that comes nearest,
 // makes of it a plan of jobs, rebuilds the picture from nothing by the plan in two orders, and prints what came of it.
-mod block;
-mod candidate;
 mod counts;
 mod fault;
-mod greymap;
-mod header;
-mod jobs;
 mod legend;
-mod nearest;
-mod order;
 mod page;
-mod plans;
 mod print;
 mod rebuild;
 mod room;
 mod show;
 
-use fault::Fault;
 use greymap::FoundMap;
+use greymap::fault::Fault;
+use series::first;
 
 // The file's greymap, its samples in the plane's first places.
 fn load(file: i32, plane: &mut [f32]) -> FoundMap {
@@ -42,15 +35,7 @@ fn show_file(name: &[u8], plane: &mut [f32]) {
     let found = load(file, plane);
     libc::close(file);
     match found {
-        FoundMap::Is(g) => {
-            let from = 0;
-            let n = g.area();
-            if n <= plane.len() {
-                show::show(name, &plane[from..n], g);
-            } else {
-                fault::tell(name, Fault::NoRoom);
-            }
-        }
+        FoundMap::Is(g) => show::show(name, first::samples(plane, g.area()), g),
         FoundMap::Not(fault) => fault::tell(name, fault),
     }
 }

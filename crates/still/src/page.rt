@@ -1,15 +1,20 @@
 // The printed page.
 use crate::counts;
-use crate::greymap::Greymap;
-use crate::jobs;
 use crate::legend;
 use crate::print;
 use crate::rebuild::Rebuilt;
+use greymap::Greymap;
+use numbers::answer::Answer;
+use planner::jobs;
 
 pub fn print_heading(name: &[u8], g: Greymap) {
     print::say(b"Finish-line still ");
     print::say(name);
     print::say(b"\n");
+    print_sizes(g);
+}
+
+fn print_sizes(g: Greymap) {
     print::number(g.width());
     print::say(b" x ");
     print::number(g.height());
@@ -41,19 +46,27 @@ pub fn print_rebuilding() {
     print::say(b"\n     rebuilt from nothing     jobs done   samples equal\n");
 }
 
+// How many of how many, each with the blanks of its column.
+fn print_part(n: usize, blanks: &[u8], all: usize, all_blanks: &[u8]) {
+    print::right(n as u64, blanks);
+    print::say(b" of ");
+    print::right(all as u64, all_blanks);
+}
+
+// A refusal of the whole run, if it is one.
+fn print_refusal(answer: u32) {
+    if answer != Answer::Done.number() {
+        print::say(b"  refused with ");
+        print::number(answer as usize);
+    }
+}
+
 // What a run in an order, by its name, gave.
 pub fn print_rebuilt(name: &[u8], g: Greymap, r: Rebuilt) {
     print::say(name);
-    print::right(r.done as u64, b"        ");
-    print::say(b" of ");
-    print::right(g.jobs() as u64, b"  ");
-    print::right(r.equal as u64, b"        ");
-    print::say(b" of ");
-    print::right(g.area() as u64, b"    ");
-    if r.answer != 0 {
-        print::say(b"  refused with ");
-        print::number(r.answer as usize);
-    }
+    print_part(r.done, b"        ", g.jobs(), b"  ");
+    print_part(r.equal, b"        ", g.area(), b"    ");
+    print_refusal(r.answer);
     print::say(b"\n");
 }
 

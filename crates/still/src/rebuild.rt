@@ -1,6 +1,8 @@
 // The picture rebuilt from nothing by one run of the plan in an order, and held against the original.
-use crate::greymap::Greymap;
 use crate::room;
+use greymap::Greymap;
+use numbers::answer::Answer;
+use series::first;
 ghost use Prim.Native.Nat.{_≤_};
 
 // The run's answer, how many jobs it did, and how many samples equal the original's.
@@ -10,12 +12,16 @@ pub struct Rebuilt {
     pub equal: usize,
 }
 
+fn wide(answer: u16) -> u32 {
+    answer as u32
+}
+
 // 1 for an answer that is done.
 fn is_done(answers: &[u16], i: usize) -> usize
     ensures { λ r. ⌜ r ≤ 1 ⌝ }
 {
     if i < answers.len() {
-        if answers[i] == 0 {
+        if wide(answers[i]) == Answer::Done.number() {
             return 1;
         }
     }
@@ -93,14 +99,8 @@ fn run_in_room(
     differences: &[i16],
 ) -> Rebuilt {
     let from = 0;
-    let n = original.len();
-    let jobs = order.len();
-    if plane.len() < n {
-        return run(plane, answers, original, g, plan, order, differences);
-    }
-    if answers.len() < jobs {
-        return run(plane, answers, original, g, plan, order, differences);
-    }
+    let n = first::within(original.len(), plane.len());
+    let jobs = first::within(order.len(), answers.len());
     run(
         &mut plane[from..n],
         &mut answers[from..jobs],
@@ -112,7 +112,7 @@ fn run_in_room(
     )
 }
 
-// The plan is run in an order over a plane that holds no sample yet.
+// The picture's rows and jobs of a plan and an order are run over a plane that holds no sample yet.
 pub fn rebuild(
     original: &[f32],
     g: Greymap,
@@ -127,8 +127,8 @@ pub fn rebuild(
         &mut answers,
         original,
         g,
-        plan,
-        order,
+        first::words(plan, 16 * g.jobs()),
+        first::words(order, g.jobs()),
         differences,
     )
 }

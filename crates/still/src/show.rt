@@ -1,72 +1,68 @@
 // A still's plan is made, run in two orders, and told.
-use crate::fault;
-use crate::fault::Fault;
-use crate::greymap::Greymap;
-use crate::order;
 use crate::page;
-use crate::plans;
 use crate::rebuild;
 use crate::room;
+use greymap::Greymap;
+use planner::order;
+use series::first;
 
-// What both orders give.
-fn run_both(original: &[f32], g: Greymap, plan: &[u16], order: &mut [u16], differences: &[i16]) {
-    page::print_rebuilding();
-    order::in_rows(order);
-    let by_rows = rebuild::rebuild(original, g, plan, order, differences);
-    page::print_rebuilt(b"     row by row          ", g, by_rows);
-    order::in_waves(g, order);
-    let by_waves = rebuild::rebuild(original, g, plan, order, differences);
-    page::print_rebuilt(b"     as a wavefront      ", g, by_waves);
+fn by_rows(original: &[f32], g: Greymap, plan: &[u16], differences: &[i16]) {
+    let mut order = room::order();
+    order::in_rows(&mut order);
+    let rebuilt = rebuild::rebuild(original, g, plan, &order, differences);
+    page::print_rebuilt(b"     row by row          ", g, rebuilt);
 }
 
-// The page, with room for the plan and for what is told of it.
-fn run_in_room(
+fn by_waves(original: &[f32], g: Greymap, plan: &[u16], differences: &[i16]) {
+    let mut order = room::order();
+    order::in_waves(g, &mut order);
+    let rebuilt = rebuild::rebuild(original, g, plan, &order, differences);
+    page::print_rebuilt(b"     as a wavefront      ", g, rebuilt);
+}
+
+// The page of a plan.
+fn tell(
+    name: &[u8],
+    original: &[f32],
+    g: Greymap,
+    plan: &[u16],
+    differences: &[i16],
+    taken: &[u8],
+    errors: &[u32],
+) {
+    page::print_heading(name, g);
+    page::print_table(taken, errors);
+    page::print_rebuilding();
+    by_rows(original, g, plan, differences);
+    by_waves(original, g, plan, differences);
+    page::print_map(g, taken);
+}
+
+// The plan is made in a room, and its page printed.
+fn in_room(
     name: &[u8],
     original: &[f32],
     g: Greymap,
     plan: &mut [u16],
-    order: &mut [u16],
     differences: &mut [i16],
     taken: &mut [u8],
     errors: &mut [u32],
 ) {
-    let from = 0;
-    let jobs = g.jobs();
-    let words = 16 * jobs;
-    if plan.len() < words {
-        return fault::tell(name, Fault::NoRoom);
-    }
-    if order.len() < jobs {
-        return fault::tell(name, Fault::NoRoom);
-    }
-    if taken.len() < jobs {
-        return fault::tell(name, Fault::NoRoom);
-    }
-    plans::make(original, g, plan, differences, taken, errors);
-    page::print_heading(name, g);
-    page::print_table(&taken[from..jobs], errors);
-    run_both(
-        original,
-        g,
-        &plan[from..words],
-        &mut order[from..jobs],
-        differences,
-    );
-    page::print_map(g, taken);
+    planner::make(original, g, plan, differences, taken, errors);
+    let jobs = first::bytes(taken, g.jobs());
+    tell(name, original, g, plan, differences, jobs, errors);
 }
 
 pub fn show(name: &[u8], original: &[f32], g: Greymap) {
     let mut plan = room::rows();
-    let mut order = room::order();
     let mut differences = room::differences();
     let mut taken = room::taken();
     let mut errors = room::errors();
-    run_in_room(
+    in_room(
         name,
         original,
         g,
         &mut plan,
-        &mut order,
         &mut differences,
         &mut taken,
         &mut errors,

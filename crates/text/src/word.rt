@@ -64,7 +64,7 @@ pub fn is_end(b: u8) -> bool {
 }
 
 // A digit's value, and 10 for any other byte.
-fn digit(b: u8) -> u64
+pub fn digit(b: u8) -> u64
     ensures { λ r. ⌜ r ≤ 10 ⌝ }
 {
     if b < b'0' {

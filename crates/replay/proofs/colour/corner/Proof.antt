@@ -1,7 +1,7 @@
--- `corner` meets its contract: it ends, and writes inside the list. Assumes nothing.
+-- `corner` meets its contract: it ends, and lends parts of the list. Assumes nothing.
+use mathlib.Core.Path.{_≡_}
 use Prim.Native.Nat.{_-_}
 use lib.ListN.{length}
-use mathlib.Core.Path.{_≡_}
 use borrow.Author.Needs.{needs}
 use Rattle.replay.proofs.colour.corner.Statement.{statement}
 use Rattle.replay.proofs.colour.corner.Tie as tie
@@ -17,9 +17,6 @@ returns c = search needs
 
 returns-2 : tie.Need-returns-2 Inv-loop μ-loop
 returns-2 c = search needs
-
-returns-3 : tie.Need-returns-3 Inv-loop μ-loop
-returns-3 c = search needs
 
 loop-holds : tie.Need-loop-holds Inv-loop μ-loop
 loop-holds c = search needs
@@ -57,8 +54,8 @@ loop-again c = search needs
 same-length : tie.Need-same-length Inv-loop μ-loop
 same-length c = search needs
 
-returns-4 : tie.Need-returns-4 Inv-loop μ-loop
-returns-4 c = search needs
+returns-3 : tie.Need-returns-3 Inv-loop μ-loop
+returns-3 c = search needs
 
 pub corner-spec : {M : Type 1} → statement M
 corner-spec =
@@ -68,7 +65,6 @@ corner-spec =
     μ-loop
     returns
     returns-2
-    returns-3
     loop-holds
     mul-from
     add-to
@@ -81,4 +77,4 @@ corner-spec =
     loop-less
     loop-again
     same-length
-    returns-4)
+    returns-3)
