@@ -7,28 +7,30 @@ use native.Mathlib.Omega.{arith}
 use lib.IntN.{ℤ}
 use lib.ListN.{length, set}
 use Rattle.numbers.specs.Answer.{isDone}
+use Rattle.numbers.specs.Colour.{theColour}
 use Rattle.numbers.specs.Depth.{isDepth}
 use Rattle.numbers.specs.declared.answer.Answer.{Answer}
 use Rattle.numbers.specs.declared.answer.Answer.the-variants.{Done, BadDepth}
 use Rattle.zint.proofs.Range.{and-both}
 use Rattle.ladder.specs.Ladder.{Rule, ladder}
 use Rattle.ladder.proofs.Ladder.{all-kept}
-use Rattle.terms.specs.Reference.{isReference}
-use Rattle.terms.proofs.Granted.{reference-all}
+use Rattle.terms.specs.Reference.{isSizes, isHeld}
+use Rattle.terms.specs.Terms.{entry}
+use Rattle.terms.proofs.Granted.{sizes-all, held-all}
 use Rattle.elimination.specs.declared.Params.{Params}
 use Rattle.sums.specs.Sum.{Laid}
 use Rattle.sums.specs.declared.window.Window.{Window}
 use Rattle.derive.specs.Rules.{areReferences, windowRules, sampleRules, deriveRules, deriveAnswer}
-use Rattle.derive.specs.Derived.{zeros, windowParams, answered, sampled, derived, written}
+use Rattle.derive.specs.Derived.{zeros, listParams, answered, sampled, derived, written}
 use Rattle.derive.proofs.Later.{later-refused, later-done}
 
 pub laid : (w : Window) (luma chroma : List ℤ) → areReferences w (length luma) (length chroma) ≡ true → Laid w luma chroma
 unfolding areReferences
 laid w luma chroma e =
-    let p = and-both (isReference (w .«ref_width») (w .«ref_height») (length luma)) (isReference (w .«ref_width») (w .«ref_height») (length chroma)) e in
-    let l = reference-all _ _ _ (p .0) in
-    let c = reference-all _ _ _ (p .1) in
-    record { wide = l .0; high = l .1; luma-long = l .2; chroma-long = c .2 }
+    let p = and-both (isSizes (w .«ref_width») (w .«ref_height»)) _ e in
+    let s = sizes-all _ _ (p .0) in
+    let h = and-both (isHeld (w .«ref_height») (length luma)) (isHeld (w .«ref_height») (length chroma)) (p .1) in
+    record { wide = s .0; high = s .1; luma-long = held-all _ _ (h .0); chroma-long = held-all _ _ (h .1) }
 
 module _ (luma chroma : List ℤ) (w : Window) (direction D : ℕ) (room : Bool) where
   abbrev rules : List Rule
@@ -50,12 +52,12 @@ module _ (luma chroma : List ℤ) (w : Window) (direction D : ℕ) (room : Bool)
 
   pub answer-window : isDepth D ≡ true → isDone (ladder rules) ≡ false → deriveAnswer luma chroma w direction D room ≡ ladder rules
   unfolding deriveAnswer
-  answer-window e n = simp e (later-refused rules (sampleRules luma chroma w direction D) n)
+  answer-window e n = simp e (later-refused rules (sampleRules (entry luma) (entry chroma) w (theColour direction) D) n)
 
   pub answer-samples : isDepth D ≡ true → ladder rules ≡ Done
-      → deriveAnswer luma chroma w direction D room ≡ ladder (sampleRules luma chroma w direction D)
+      → deriveAnswer luma chroma w direction D room ≡ ladder (sampleRules (entry luma) (entry chroma) w (theColour direction) D)
   unfolding deriveAnswer
-  answer-samples e n = simp e (later-done rules (sampleRules luma chroma w direction D) n tt)
+  answer-samples e n = simp e (later-done rules (sampleRules (entry luma) (entry chroma) w (theColour direction) D) n tt)
 
   -- what is returned
   pub derived-refused : (a : Answer) → deriveAnswer luma chroma w direction D room ≡ a → isDone a ≡ false
@@ -63,17 +65,17 @@ module _ (luma chroma : List ℤ) (w : Window) (direction D : ℕ) (room : Bool)
   unfolding derived
   derived-refused a e n = λ j. record {
     answer = sym e j;
-    params = (sym (ap (λ t. cond t (windowParams luma chroma w direction D) zeros) (ap isDone e ∙ n))) j;
+    params = (sym (ap (λ t. cond t (listParams luma chroma w direction D) zeros) (ap isDone e ∙ n))) j;
   }
 
-  pub derived-samples : deriveAnswer luma chroma w direction D room ≡ ladder (sampleRules luma chroma w direction D)
-      → sampled luma chroma w direction D ≡ derived luma chroma w direction D room
+  pub derived-samples : deriveAnswer luma chroma w direction D room ≡ ladder (sampleRules (entry luma) (entry chroma) w (theColour direction) D)
+      → sampled (entry luma) (entry chroma) w (theColour direction) D ≡ derived luma chroma w direction D room
   unfolding sampled derived
-  derived-samples e = ap (answered luma chroma w direction D) (sym e)
+  derived-samples e = ap (answered (entry luma) (entry chroma) w (theColour direction) D) (sym e)
 
-  pub derived-params : isDone (deriveAnswer luma chroma w direction D room) ≡ true → derived luma chroma w direction D room .params ≡ windowParams luma chroma w direction D
+  pub derived-params : isDone (deriveAnswer luma chroma w direction D room) ≡ true → derived luma chroma w direction D room .params ≡ listParams luma chroma w direction D
   unfolding derived
-  derived-params e = ap (λ t. cond t (windowParams luma chroma w direction D) zeros) e
+  derived-params e = ap (λ t. cond t (listParams luma chroma w direction D) zeros) e
 
   pub derived-answer : derived luma chroma w direction D room .answer ≡ deriveAnswer luma chroma w direction D room
   unfolding derived

@@ -1,20 +1,29 @@
 -- "so each ends at or below 2^22": n samples whose terms are at most M have sums of at most 2^(2D + ceil(log2 n)), with D open. Assumes nothing.
 use mathlib.Core.Path.{_≡_, sym, _∙_, ap, subst}
+use mathlib.Core.Bool.{true}
 use mathlib.Core.Logic.{⊎-elim}
 use Prim.Native.Nat.{ℕ, suc, _+_, _-_, _*_, _/_, _^_, _≤_, _<_}
 use native.Mathlib.Omega.{arith}
 use native.Mathlib.Numerals.{add-one}
 use native.Mathlib.Nat as N
+use lib.IntN.{ℤ}
 use lib.Pow.{pow-add}
 use borrow.Author.Tests.{lt-ltb, le-ltb}
 use Rattle.numbers.specs.Depth.{most}
+use Rattle.numbers.specs.declared.colour.ColourDirection.{ColourDirection}
 use Rattle.fixed.specs.Product.{ilog2}
 use Rattle.zint.proofs.Naturals.{either}
 use Rattle.fixed.proofs.Shift.{ilog2-is, ilog2-le}
-use Rattle.sums.specs.Sum.{NineMost}
+use Rattle.fixed.specs.Elimination.{SumsIn}
+use Rattle.terms.specs.Reference.{isSizes}
+use Rattle.terms.proofs.Granted.{sizes-all}
+use Rattle.sums.specs.Sum.{sumsOf, countOf, isReadable, NineMost}
 use Rattle.sums.specs.declared.nine.Nine.{Nine}
-use Rattle.sums.proofs.Steps.{wider}
-use Rattle.derive.specs.Shift.{ceilLog2, reach, shifted}
+use Rattle.sums.specs.declared.window.Window.{Window}
+use Rattle.sums.proofs.Count.{count-most}
+use Rattle.sums.proofs.Sizes.{sums-most}
+use Rattle.sums.proofs.Grown.{wider}
+use Rattle.derive.specs.Shift.{ceilLog2, reach, shifted, shiftedSums}
 
 pub ceil-few : (n : ℕ) → n < 2 → ceilLog2 n ≡ 0
 unfolding ceilLog2
@@ -88,3 +97,29 @@ shifted-most e s h = ⊎-elim up down (either e 22)
         let o = N.one-le-pow (e - 22) 2 (N.zero-lt-suc 1) in
         let b : s * 1 < suc (2 ^ 22) * 2 ^ (e - 22) = omega (arith, h, p, o) in
         rw z (N.le-of-suc-le-suc (N.div-lt-iff-lt-mul o .1 b))
+
+-- all nine
+pub shifted-sums-most : (e : ℕ) (s : Nine) → NineMost (2 ^ e) s → SumsIn (2 ^ 22) (shiftedSums e s)
+unfolding shiftedSums
+shifted-sums-most e s h = record {
+  a00 = shifted-most e (s .a00) (h .a00);
+  a01 = shifted-most e (s .a01) (h .a01);
+  a02 = shifted-most e (s .a02) (h .a02);
+  a11 = shifted-most e (s .a11) (h .a11);
+  a12 = shifted-most e (s .a12) (h .a12);
+  a22 = shifted-most e (s .a22) (h .a22);
+  y0 = shifted-most e (s .y0) (h .y0);
+  y1 = shifted-most e (s .y1) (h .y1);
+  y2 = shifted-most e (s .y2) (h .y2);
+}
+
+-- "Sums are shifted by 22 - 2D - ceil(log2 count), so each ends at or below 2^22.": of every readable window that is not too wide or high, whether or
+-- not 14 refuses its sums
+pub window-shifted-most : (luma chroma : ℕ → ℕ → ℤ) (w : Window) (direction : ColourDirection) (D : ℕ) → 1 ≤ D
+    → isSizes (w .«ref_width») (w .«ref_height») ≡ true → isReadable (most D) direction luma chroma w ≡ true
+    → SumsIn (2 ^ 22) (shiftedSums (reach D (countOf w)) (sumsOf D direction luma chroma w))
+window-shifted-most luma chroma w direction D one sizes readable =
+    let z = sizes-all _ _ sizes in
+    let n = countOf w in
+    let few : n < 2 ^ 32 = omega (arith, count-most w (z .0) (z .1)) in
+    shifted-sums-most (reach D n) _ (sums-reach D n _ few (sums-most D direction luma chroma w one readable))

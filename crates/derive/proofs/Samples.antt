@@ -1,13 +1,13 @@
 -- What the samples of a window give: nothing counted, refusals 13 and 14, parameters. Assumes nothing.
 use mathlib.Core.Path.{_≡_, sym, _∙_, ap}
 use mathlib.Core.Bool.{true, false, cond}
-use mathlib.Core.List.{List}
 use Prim.Native.Nat.{ℕ}
 use lib.IntN.{ℤ}
 use Rattle.numbers.specs.Answer.{isDone}
 use Rattle.numbers.specs.Depth.{most}
 use Rattle.numbers.specs.declared.answer.Answer.{Answer}
 use Rattle.numbers.specs.declared.answer.Answer.the-variants.{Done, BadColourSample, SumTooLarge}
+use Rattle.numbers.specs.declared.colour.ColourDirection.{ColourDirection}
 use Rattle.ladder.specs.Ladder.{ladder}
 use Rattle.elimination.specs.declared.Params.{Params}
 use Rattle.sums.specs.Sum.{sumsOf, countOf, isReadable}
@@ -18,7 +18,7 @@ use Rattle.derive.specs.Rules.{isSmall, sampleRules}
 use Rattle.derive.specs.Derived.{zeros, windowParams, answered, sampled}
 use Rattle.derive.specs.declared.Derived.{Derived}
 
-module _ (luma chroma : List ℤ) (w : Window) (direction D : ℕ) where
+module _ (luma chroma : ℕ → ℕ → ℤ) (w : Window) (direction : ColourDirection) (D : ℕ) where
   abbrev answer : Answer
   answer = ladder (sampleRules luma chroma w direction D)
 

@@ -1,14 +1,15 @@
 // Colour parameters from a reference window (document 01, Colour parameters): `derive_params` takes any input and tests 2, 10, 11, 12, 9, 13, 14 in
 // that order.
-pub mod rules;
-pub mod shift;
-pub mod solve;
+mod rules;
+mod shift;
+mod solve;
 
 use elimination::Params;
 use numbers::answer::Answer;
+use numbers::colour::ColourDirection;
 use numbers::depth::Depth;
 use numbers::depth::FoundDepth;
-use sums::sample::Scale;
+use sums::sample::DepthTerms;
 use sums::window;
 use sums::window::Gathered;
 use sums::window::Window;
@@ -16,6 +17,7 @@ ghost use mathlib.Core.Path.{_≡_};
 ghost use mathlib.Core.Bool.{true};
 ghost use Rattle.numbers.specs.Depth.{bitsOf};
 ghost use Rattle.numbers.specs.declared.answer.Answer.the-variants.{Done};
+ghost use Rattle.terms.specs.Terms.{entry};
 ghost use Rattle.sums.specs.Sum.{Laid};
 ghost use Rattle.derive.specs.Derived.{zeros, sampled, derived, Written};
 
@@ -50,15 +52,22 @@ fn accepted(params: Params) -> Derived
 }
 
 // What the samples of a window give that passed the tests before 13: its parameters, or a refusal.
-fn sampled(luma: &[i32], chroma: &[i32], w: Window, direction: u32, depth: Depth, d: u32) -> Derived
+fn sampled(
+    luma: &[i32],
+    chroma: &[i32],
+    w: Window,
+    direction: ColourDirection,
+    depth: Depth,
+    d: u32,
+) -> Derived
     requires { ⌜ Laid w (now luma) (now chroma) × (bitsOf depth ≡ d) ⌝ }
-    ensures { λ r. ⌜ r ≡ sampled (now (luma .entry)) (now (chroma .entry)) w direction d ⌝ }
+    ensures { λ r. ⌜ r ≡ sampled (entry (now (luma .entry))) (entry (now (chroma .entry))) w direction d ⌝ }
 {
     let n = window::count_of(w);
     if n == 0 {
         return accepted(solve::flat());
     }
-    let g = window::gather(luma, chroma, w, direction, Scale::of(depth, d));
+    let g = window::gather(luma, chroma, w, n, direction, DepthTerms::of(depth, d));
     let Gathered::Sums(s) = g else {
         return refused(Answer::BadColourSample);
     };
@@ -86,7 +95,7 @@ pub fn derive(
     if !answer.is_done() {
         return refused(answer);
     }
-    sampled(luma, chroma, w, direction, depth, d)
+    sampled(luma, chroma, w, ColourDirection::named(direction), depth, d)
 }
 
 // The parameters of a window, or a refusal with zeros.

@@ -1,7 +1,10 @@
 // What `derive_params` tests before it looks at a sample (document 01, Refusal numbers): 10, 11, 12, 9.
 use numbers::answer::Answer;
+use numbers::colour::ColourDirection;
+use numbers::colour::FoundColour;
 use sums::window::Window;
 use terms::reference;
+use terms::reference::Reference;
 ghost use mathlib.Core.Path.{_≡_};
 ghost use Rattle.ladder.specs.Ladder.{ladder};
 ghost use Rattle.derive.specs.Rules.{areReferences, windowRules};
@@ -10,19 +13,23 @@ ghost use Rattle.derive.specs.Rules.{areReferences, windowRules};
 fn are_references(w: Window, luma: usize, chroma: usize) -> bool
     ensures { λ r. ⌜ r ≡ areReferences w luma chroma ⌝ }
 {
-    if !reference::is_reference(w.ref_width, w.ref_height, luma) {
+    let r = Reference {
+        width: w.ref_width,
+        height: w.ref_height,
+    };
+    if !r.is_sizes() {
         return false;
     }
-    reference::is_reference(w.ref_width, w.ref_height, chroma)
+    r.is_held(luma) & r.is_held(chroma)
 }
 
 // What the tests 10, 11, 12 and 9 answer, where the lists have so many entries.
 pub fn answer_of(w: Window, luma: usize, chroma: usize, direction: u32, room: bool) -> Answer
     ensures { λ r. ⌜ r ≡ ladder (windowRules luma chroma w direction room) ⌝ }
 {
-    if 2 < direction {
+    let FoundColour::Is(_) = ColourDirection::of(direction) else {
         return Answer::BadColourDirection;
-    }
+    };
     if !are_references(w, luma, chroma) {
         return Answer::BadReference;
     }

@@ -5,7 +5,6 @@ use sums::nine::Nine;
 ghost use mathlib.Core.Path.{_≡_};
 ghost use Prim.Native.Nat.{_^_, _≤_};
 ghost use lib.IntN.{pos};
-ghost use Rattle.elimination.specs.Elimination.{SumsIn};
 ghost use Rattle.sums.specs.Sum.{NineMost};
 ghost use Rattle.derive.specs.Shift.{ceilLog2, shifted, shiftedSums};
 
@@ -30,7 +29,7 @@ fn shifted(s: u64, e: u32) -> i32
 // The nine sums, each shifted by 22 - e.
 pub fn shift_all(s: Nine, e: u32) -> Sums
     requires { ⌜ NineMost (2 ^ 41) s × NineMost (2 ^ e) s × (e ≤ 62) ⌝ }
-    ensures { λ r. ⌜ (r ≡ shiftedSums e s) × SumsIn (2 ^ 22) r ⌝ }
+    ensures { λ r. ⌜ r ≡ shiftedSums e s ⌝ }
 {
     Sums {
         a00: shifted(s.a00, e),

@@ -10,22 +10,19 @@ ghost use Rattle.sums.specs.Sum.{NineMost};
 ghost use Rattle.derive.specs.Rules.{isSmall};
 ghost use Rattle.derive.specs.Shift.{flat, paramsOf};
 
-// The largest sum that is accepted.
-const LARGEST: u64 = 2147483647;
-
-// Whether none of the nine sums exceeds it.
+// Whether none of the nine sums exceeds the largest that is accepted.
 pub fn is_small(s: Nine) -> bool
     ensures { λ r. ⌜ r ≡ isSmall s ⌝ }
 {
-    (s.a00 <= LARGEST)
-        & (s.a01 <= LARGEST)
-        & (s.a02 <= LARGEST)
-        & (s.a11 <= LARGEST)
-        & (s.a12 <= LARGEST)
-        & (s.a22 <= LARGEST)
-        & (s.y0 <= LARGEST)
-        & (s.y1 <= LARGEST)
-        & (s.y2 <= LARGEST)
+    (s.a00 <= Nine::MOST)
+        & (s.a01 <= Nine::MOST)
+        & (s.a02 <= Nine::MOST)
+        & (s.a11 <= Nine::MOST)
+        & (s.a12 <= Nine::MOST)
+        & (s.a22 <= Nine::MOST)
+        & (s.y0 <= Nine::MOST)
+        & (s.y1 <= Nine::MOST)
+        & (s.y2 <= Nine::MOST)
 }
 
 // "No sample counted gives 0, 0, 65536."

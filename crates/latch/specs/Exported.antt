@@ -14,7 +14,7 @@ use Rattle.edges.specs.declared.spec.IntraRefSpec.{IntraRefSpec}
 use Rattle.calls.specs.Direct.{Predictor, directAnswer}
 use Rattle.sums.specs.declared.window.Window.{Window}
 use Rattle.derive.specs.Rules.{deriveAnswer}
-use Rattle.derive.specs.Derived.{windowParams, written}
+use Rattle.derive.specs.Derived.{listParams, written}
 use Rattle.predict.specs.Predicted.{predictedBlock}
 use Rattle.predict_rules.specs.Rules.{predictAnswer}
 use Rattle.predict_rules.specs.declared.block.Block.{Block}
@@ -66,7 +66,7 @@ window refWidth refHeight aboveLines leftLines = record {
 abbrev pub DerivedC : List ℤ → List ℤ → Window → ℕ → ℕ → List ℤ → List ℤ → ℕ → Type 0
 DerivedC luma chroma w direction D before after r =
     Promise (answerNumber (deriveAnswer luma chroma w direction D (leb 3 (length before))))
-    (lent (deriveAnswer luma chroma w direction D (leb 3 (length before))) (written (windowParams luma chroma w direction D) before) before)
+    (lent (deriveAnswer luma chroma w direction D (leb 3 (length before))) (written (listParams luma chroma w direction D) before) before)
     r after
 
 -- `predict_block`

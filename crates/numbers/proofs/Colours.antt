@@ -1,10 +1,10 @@
 -- The two ways agree for the colour directions: the case of a case's number is that case, and the number of the case that is found is the number
 -- that was looked for. Assumes nothing.
-use mathlib.Core.Path.{_≡_, refl, subst}
+use mathlib.Core.Path.{_≡_, refl, ap}
 use mathlib.Core.Bool.{true, false}
 use Prim.Native.Nat.{ℕ}
 use native.Mathlib.Omega.{arith}
-use Rattle.numbers.specs.Colour.{colourNumber, colours, colourOf, theColour, isColour}
+use Rattle.numbers.specs.Colour.{colourNumber, colours, colourOf, orCentre, theColour, isColour}
 use Rattle.numbers.specs.declared.colour.ColourDirection.{ColourDirection}
 use Rattle.numbers.specs.declared.colour.ColourDirection.the-variants.{Centre, Above, Left}
 use Rattle.numbers.specs.declared.colour.FoundColour.the-variants.{Is, NoColour}
@@ -26,12 +26,7 @@ colour-back n e h = look-back colourNumber Is NoColour same none colours n e h
 
 -- the case that the code finds is the one that the definitions take
 pub colour-the : (n : ℕ) (e : ColourDirection) → colourOf n ≡ Is e → theColour n ≡ e
-colour-the n e h = subst (λ (k : ℕ). theColour k ≡ e) (colour-back n e h) (the e)
-  where
-    the : (d : ColourDirection) → theColour (colourNumber d) ≡ d
-    the Centre = refl
-    the Above = refl
-    the Left = refl
+colour-the n e h = ap orCentre h
 
 -- the test, and what the code finds
 pub colour-yes : (n : ℕ) (e : ColourDirection) → colourOf n ≡ Is e → isColour n ≡ true

@@ -22,8 +22,12 @@ abbrev pub colourOf : ℕ → FoundColour
 colourOf n = look colourNumber Is NoColour colours n
 
 -- the case of n; of a number that names none, which 10 refuses, the centre
+abbrev pub orCentre : FoundColour → ColourDirection
+orCentre (Is d) = d
+orCentre NoColour = Centre
+
 abbrev pub theColour : ℕ → ColourDirection
-theColour n = look colourNumber (λ d. d) Centre colours n
+theColour n = orCentre (colourOf n)
 
 -- n is one of the three
 unfoldable pub isColour : ℕ → Bool

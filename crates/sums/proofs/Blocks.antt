@@ -6,21 +6,16 @@ use Prim.Native.Nat.{ℕ, suc, _+_, _-_, _*_, _≤_, _<_}
 use native.Mathlib.Omega.{arith}
 use lib.IntN.{ℤ, pos, natAbs}
 use lib.ListN.{length, getD}
+use Rattle.numbers.specs.declared.colour.ColourDirection.{ColourDirection}
 use Rattle.terms.specs.Terms.{entry}
 use Rattle.sums.specs.declared.nine.Nine.{Nine}
-use Rattle.sums.specs.declared.lines.Lines.{Lines}
-use Rattle.sums.specs.Sample.{own, behind, inRange, isRead, terms}
+use Rattle.sums.specs.Sample.{directionLuma, inRange, inRangeAt, terms}
 use Rattle.sums.specs.Places.{fold}
+use Rattle.sums.specs.Way.{behind}
 use Rattle.sums.specs.Sum.{added, oneMore}
-use Rattle.sums.specs.Took.{Grid, readAt, moreAt, readable, overLines}
+use Rattle.sums.specs.Took.{Grid, readAt, moreAt, readable, overLines, byRows, byColumns}
 use Rattle.sums.proofs.Walks.{fold-same}
-use Rattle.sums.proofs.Ranges.{own-at, behind-most}
-
-abbrev pub byRows : ℕ → ℕ → ℕ → Lines
-byRows m r n = record { at = m * 256 + 257; lines = r; apart = 256; places = n; step = 1 }
-
-abbrev pub byColumns : ℕ → ℕ → ℕ → Lines
-byColumns m r n = record { at = m * 256 + 257; lines = n; apart = 1; places = r; step = 256 }
+use Rattle.sums.proofs.Ranges.{luma-at, behind-most}
 
 -- the rows stand in the lists
 pub record Block (m r n : ℕ) (luma chroma : List ℤ) : Type 0 where
@@ -29,13 +24,13 @@ pub record Block (m r n : ℕ) (luma chroma : List ℤ) : Type 0 where
   pub luma-long : (j : ℕ) → j < r → suc (suc (m + j)) * 256 ≤ length luma
   pub chroma-long : (j : ℕ) → j < r → suc (suc (m + j)) * 256 ≤ length chroma
 
-module _ (m r n direction : ℕ) (luma chroma : List ℤ) where
+module _ (m r n : ℕ) (direction : ColourDirection) (luma chroma : List ℤ) where
   abbrev back : ℕ
   back = behind direction
 
   pub rows-grid : Block m r n luma chroma → Grid (byRows m r n) back luma chroma
   rows-grid b = record {
-    before = omega (arith, behind-most direction);
+    before = omega (arith, behind-most direction .2);
     few = omega (arith, b .rows);
     short = b .columns;
     line = λ j l. record {
@@ -48,7 +43,7 @@ module _ (m r n direction : ℕ) (luma chroma : List ℤ) where
 
   pub columns-grid : Block m r n luma chroma → Grid (byColumns m r n) back luma chroma
   columns-grid b = record {
-    before = omega (arith, behind-most direction);
+    before = omega (arith, behind-most direction .2);
     few = b .columns;
     short = omega (arith, b .rows);
     line = λ j l. record {
@@ -61,17 +56,17 @@ module _ (m r n direction : ℕ) (luma chroma : List ℤ) where
 
   -- ---- a place by its entries
   module _ (q p x y : ℕ) (hx : 1 ≤ x) (hy : 1 ≤ y) (e : p ≡ y * 256 + x) (d : q ≡ y * 256 + x - back) where
-    v-is : getD luma q (pos 0) ≡ own direction luma x y
-    v-is = ap (λ k. getD luma k (pos 0)) d ∙ sym (own-at direction luma x y hx hy)
+    v-is : getD luma q (pos 0) ≡ directionLuma direction (entry luma) x y
+    v-is = ap (λ k. getD luma k (pos 0)) d ∙ sym (luma-at direction luma x y hx hy)
 
     c-is : (xs : List ℤ) → getD xs p (pos 0) ≡ entry xs x y
     c-is xs = ap (λ k. getD xs k (pos 0)) e
 
-    pub read-is : (M : ℕ) (ok : Bool) → readAt M luma chroma q p ok ≡ readable M direction luma chroma x y ok
-    unfolding isRead
+    pub read-is : (M : ℕ) (ok : Bool) → readAt M luma chroma q p ok ≡ readable M direction (entry luma) (entry chroma) x y ok
+    unfolding inRangeAt
     read-is M ok = λ j. ok && inRange M (v-is j) (c-is luma j) (c-is chroma j)
 
-    pub more-is : (D : ℕ) (s : Nine) → moreAt D luma chroma q p s ≡ oneMore D direction luma chroma x y s
+    pub more-is : (D : ℕ) (s : Nine) → moreAt D luma chroma q p s ≡ oneMore D direction (entry luma) (entry chroma) x y s
     unfolding oneMore
     more-is D s = λ j. added s (terms D (v-is j) (c-is luma j)) (natAbs (c-is chroma j))
 
@@ -79,8 +74,8 @@ module _ (m r n direction : ℕ) (luma chroma : List ℤ) where
   module _ {A : Type 0} (f g : ℕ → ℕ → A → A) (same : (q p x y : ℕ) → 1 ≤ x → 1 ≤ y → p ≡ y * 256 + x → q ≡ y * 256 + x - back → (a : A) → f q p a ≡ g x y a) where
     pub over-rows : (a : A) → overLines r (byRows m r n) back f a ≡ fold r (λ j b. fold n (λ i c. g (suc i) (suc (m + j)) c) b) a
     over-rows =
-        fold-same r _ _ (λ j l. fold-same n _ _ (λ i k b. same _ _ (suc i) (suc (m + j)) (omega arith) (omega arith) (omega arith) (omega (arith, behind-most direction)) b))
+        fold-same r _ _ (λ j l. fold-same n _ _ (λ i k b. same _ _ (suc i) (suc (m + j)) (omega arith) (omega arith) (omega arith) (omega (arith, behind-most direction .2)) b))
 
     pub over-columns : (a : A) → overLines n (byColumns m r n) back f a ≡ fold n (λ i b. fold r (λ j c. g (suc i) (suc (m + j)) c) b) a
     over-columns =
-        fold-same n _ _ (λ i l. fold-same r _ _ (λ j k b. same _ _ (suc i) (suc (m + j)) (omega arith) (omega arith) (omega arith) (omega (arith, behind-most direction)) b))
+        fold-same n _ _ (λ i l. fold-same r _ _ (λ j k b. same _ _ (suc i) (suc (m + j)) (omega arith) (omega arith) (omega arith) (omega (arith, behind-most direction .2)) b))

@@ -1,13 +1,13 @@
 -- How many places count, and what follows where none does. Assumes nothing.
 use mathlib.Core.Path.{_≡_, refl, _∙_, ap}
 use mathlib.Core.Bool.{true, _&&_}
-use mathlib.Core.List.{List}
 use Prim.Native.Nat.{ℕ, zero, suc, _+_, _-_, _*_, _≤_}
 use native.Mathlib.Nat as N
 use native.Mathlib.Omega.{arith}
 use lib.IntN.{ℤ}
+use Rattle.numbers.specs.declared.colour.ColourDirection.{ColourDirection}
 use Rattle.sums.specs.declared.window.Window.{Window}
-use Rattle.sums.specs.Sample.{isRead}
+use Rattle.sums.specs.Sample.{inRangeAt}
 use Rattle.sums.specs.Places.{fold, walk, wide, high, rowsAbove, few, block, above, below}
 use Rattle.sums.specs.Sum.{none, oneMore, sumsOf, countOf, isReadable}
 use Rattle.sums.proofs.Walks.{rows-both}
@@ -45,11 +45,11 @@ pub count-most : (w : Window) → w .«ref_width» ≤ 256 → w .«ref_height»
 count-most w hw hh = rw (count-is w) (few-rows w hw hh .2)
 
 -- ---- none counts
-module _ (D M direction : ℕ) (luma chroma : List ℤ) (w : Window) (z : countOf w ≡ 0) where
+module _ (D M : ℕ) (direction : ColourDirection) (luma chroma : ℕ → ℕ → ℤ) (w : Window) (z : countOf w ≡ 0) where
   pub none-readable : isReadable M direction luma chroma w ≡ true
   unfolding walk
   none-readable =
-      rows-both (λ n ok. n ≡ 0 → ok ≡ true) w (λ x y n. n + 1) (λ x y ok. ok && isRead M direction luma chroma x y)
+      rows-both (λ n ok. n ≡ 0 → ok ≡ true) w (λ x y n. n + 1) (λ x y ok. ok && inRangeAt M direction luma chroma x y)
       (λ x y c n ok h e. absurd (omega arith)) (w .«ref_height») 0 true (λ e. refl) z
 
   pub none-summed : sumsOf D direction luma chroma w ≡ none

@@ -4,9 +4,13 @@ pub mod Counted
 pub mod Runs
 pub mod Digits
 pub mod Ranges
-pub mod Parts
+pub mod Low
+pub mod Grown
+pub mod LineLaws
+pub mod LongLaws
 pub mod Lined
 pub mod Steps
+pub mod EachLine
 pub mod Swap
 pub mod Blocks
 pub mod Taken

@@ -1,4 +1,4 @@
--- A line of places in a part: what holds after i of them, one place more, and what the totals take. Assumes nothing.
+-- One place taken, and a line of places taken the fast way: what holds after i of them, one place more, and what the totals take. Assumes nothing.
 use mathlib.Core.Path.{_≡_, sym, _∙_, ap, subst}
 use mathlib.Core.Bool.{Bool, true, _&&_}
 use mathlib.Core.List.{List}
@@ -6,22 +6,30 @@ use Prim.Native.Nat.{ℕ, _+_, _*_, _≤_}
 use native.Mathlib.Omega.{arith}
 use lib.IntN.{ℤ, pos, natAbs}
 use lib.ListN.{getD}
+use mir.Syntax.{w32}
+use mir.Val.{ofZ}
 use Rattle.numbers.specs.Depth.{most}
 use Rattle.zint.proofs.Range.{and-both}
+use Rattle.zint.proofs.Naturals.{low-most}
 use Rattle.terms.specs.Terms.{middle}
+use Rattle.terms.proofs.Most.{middle-most}
 use Rattle.sums.specs.declared.nine.Nine.{Nine}
-use Rattle.sums.specs.declared.part.Part.{Part}
-use Rattle.sums.specs.declared.sample.Sample.{Sample}
+use Rattle.sums.specs.declared.fast.LineSums.{LineSums}
 use Rattle.sums.specs.declared.seen.Seen.{Seen}
-use Rattle.sums.specs.declared.lines.Totals.{Totals}
+use Rattle.sums.specs.declared.totals.Totals.{Totals}
 use Rattle.sums.specs.Sample.{inRange, terms}
 use Rattle.sums.specs.Places.{fold}
 use Rattle.sums.specs.Sum.{added, NineMost}
-use Rattle.sums.specs.Way.{sample, noPart, partAdded, plus, scaled, allIn, Met, PartMost, SampleMost}
-use Rattle.sums.specs.Took.{readAt, moreAt, TookLine}
+use Rattle.sums.specs.Way.{low, lowTerms, allIn, Met}
+use Rattle.sums.specs.Fast.{noLine, lineAdded, withLine, LineMost}
+use Rattle.sums.specs.Took.{readAt, moreAt, TookOne, TookLine}
+use Rattle.sums.proofs.Ranges.{most-small}
+use Rattle.sums.proofs.Grown.{added-most}
+use Rattle.sums.proofs.Low.{low-terms-most, low-terms-are, low-chroma-is}
 use Rattle.sums.proofs.Walks.{fold-none, fold-next}
-use Rattle.sums.proofs.Parts.{taken, nothing-more, part-start, part-added, plus-most}
+use Rattle.sums.proofs.LineLaws.{line-taken, line-nothing, line-empty, line-added, line-grown}
 
+-- ---- a line that is taken the fast way
 module _ (D : ℕ) (luma chroma : List ℤ) (q p step : ℕ) (g : Totals) where
   abbrev test : ℕ → Bool → Bool
   test k ok = readAt (most D) luma chroma (q + k * step) (p + k * step) ok
@@ -29,18 +37,19 @@ module _ (D : ℕ) (luma chroma : List ℤ) (q p step : ℕ) (g : Totals) where
   abbrev more : ℕ → Nine → Nine
   more k s = moreAt D luma chroma (q + k * step) (p + k * step) s
 
-  pub record InPart (i : ℕ) (seen : Seen) (part : Part) : Type 0 where
+  -- after i of its places
+  pub record InLine (i : ℕ) (seen : Seen) (line : LineSums) : Type 0 where
     pub tested : allIn (most D) seen ≡ fold i test (allIn (most D) (g .seen))
     pub kept : allIn (most D) seen ≡ true → allIn (most D) (g .seen) ≡ true
-    pub summed : allIn (most D) seen ≡ true → scaled (middle D) (plus (g .sums) part) ≡ fold i more (scaled (middle D) (g .sums))
-    pub few : PartMost (i * (4095 * 4095)) part
+    pub summed : allIn (most D) seen ≡ true → withLine (middle D) (g .sums) line ≡ fold i more (g .sums)
+    pub few : LineMost i line
 
-  pub line-start : InPart 0 (g .seen) noPart
+  pub line-start : InLine 0 (g .seen) noLine
   line-start = record {
     tested = sym (fold-none test _);
     kept = λ h. h;
-    summed = λ h. ap (scaled (middle D)) (nothing-more (g .sums)) ∙ sym (fold-none more _);
-    few = part-start;
+    summed = λ h. line-nothing (middle D) (g .sums) ∙ sym (fold-none more _);
+    few = line-empty;
   }
 
   -- the values at place i
@@ -49,29 +58,52 @@ module _ (D : ℕ) (luma chroma : List ℤ) (q p step : ℕ) (g : Totals) where
     pub c-is : c ≡ getD luma (p + i * step) (pos 0)
     pub k-is : k ≡ getD chroma (p + i * step) (pos 0)
 
-  -- one more
-  module _ (i : ℕ) (v c k : ℤ) (seen seen' : Seen) (part : Part) (s : Sample) (small : D ≤ 12) (h : InPart i seen part) (e : Values i v c k) (m : Met v c k seen seen') (l : SampleMost 4095 s) (is : inRange (most D) v c k ≡ true → s ≡ sample D v c k) where
-    both : allIn (most D) seen' ≡ true → (allIn (most D) seen ≡ true) × (inRange (most D) v c k ≡ true)
-    both y = and-both (allIn (most D) seen) (inRange (most D) v c k) (sym (m D small) ∙ y)
+module _ (D : ℕ) (one : 1 ≤ D) (twelve : D ≤ 12) where
+  -- ---- a sample whose values were seen
+  module _ (v c k : ℤ) (seen seen' : Seen) (m : Met v c k seen seen') where
+    before : allIn (most D) seen' ≡ true → (allIn (most D) seen ≡ true) × (inRange (most D) v c k ≡ true)
+    before y = and-both (allIn (most D) seen) (inRange (most D) v c k) (sym (m D twelve) ∙ y)
 
-    pub line-more : InPart (i + 1) seen' (partAdded part s)
-    line-more = record {
-      tested = m D small ∙ (λ j. h .tested j && inRange (most D) (e .v-is j) (e .c-is j) (e .k-is j)) ∙ sym (fold-next i test _);
-      kept = λ y. h .kept (both y .0);
+    -- adds what the document says where all is in range
+    sample-is : (s : Nine) → allIn (most D) seen' ≡ true → added s (lowTerms D v c) (low k) ≡ added s (terms D v c) (natAbs k)
+    sample-is s y =
+        let h = before y .1 in
+        λ j. added s (low-terms-are D one twelve v c k h j) (low-chroma-is D one twelve v c k h j)
+
+  pub took-one : (v c k : ℤ) (g r : Totals) → Met v c k (g .seen) (r .seen) → r .sums ≡ added (g .sums) (lowTerms D v c) (low k) → TookOne D v c k g r
+  took-one v c k g r m e = record {
+    tested = m D twelve;
+    kept = λ y. before v c k (g .seen) (r .seen) m y .0;
+    summed = λ y. e ∙ sample-is v c k (g .seen) (r .seen) m (g .sums) y;
+    grown = λ b h.
+        subst (NineMost (b + 4095 * 4095)) (sym e)
+        (added-most 4095 b (low k) (g .sums) (lowTerms D v c) h (low-terms-most D one twelve v c) (low-most (ofZ w32 k)));
+  }
+
+  module _ (luma chroma : List ℤ) (q p step : ℕ) (g : Totals) where
+    -- a place of the line more
+    pub line-more : (i : ℕ) (v c k : ℤ) (seen seen' : Seen) (line : LineSums) → InLine D luma chroma q p step g i seen line
+        → Values D luma chroma q p step g i v c k → Met v c k seen seen' → InLine D luma chroma q p step g (i + 1) seen' (lineAdded line (lowTerms D v c) (low k))
+    line-more i v c k seen seen' line h e m = record {
+      tested =
+          m D twelve ∙ (λ j. h .tested j && inRange (most D) (e .v-is j) (e .c-is j) (e .k-is j)) ∙ sym (fold-next i (test D luma chroma q p step g) _);
+      kept = λ y. h .kept (before v c k seen seen' m y .0);
       summed = λ y.
-          ap (λ x. scaled (middle D) (plus (g .sums) (partAdded part x))) (is (both y .1))
-          ∙ taken D (g .sums) part v c k
-          ∙ (λ j. added (h .summed (both y .0) j) (terms D (e .v-is j) (e .c-is j)) (natAbs (e .k-is j)))
-          ∙ sym (fold-next i more _);
-      few = part-added (omega arith) (h .few) l;
+          line-taken (g .sums) line (lowTerms D v c) (low k)
+          ∙ sample-is v c k seen seen' m (withLine (middle D) (g .sums) line) y
+          ∙ (λ j. added (h .summed (before v c k seen seen' m y .0) j) (terms D (e .v-is j) (e .c-is j)) (natAbs (e .k-is j)))
+          ∙ sym (fold-next i (more D luma chroma q p step g) _);
+      few = line-added (h .few) (low-terms-most D one twelve v c) (low-most (ofZ w32 k));
     }
 
-  -- the totals with the whole line
-  pub line-took : {n : ℕ} {seen : Seen} {part : Part} {s : Nine} → InPart n seen part → s ≡ plus (g .sums) part
-      → TookLine D luma chroma q p n step g (record { seen = seen; sums = s })
-  line-took {n} {seen} {part} {s} h e = record {
-    tested = h .tested;
-    kept = h .kept;
-    summed = λ y. ap (scaled (middle D)) e ∙ h .summed y;
-    grown = λ b m. subst (NineMost (b + n * (4095 * 4095))) (sym e) (plus-most m (h .few));
-  }
+    -- the totals with the whole line
+    pub line-took : {n : ℕ} {seen : Seen} {line : LineSums} {s : Nine} → InLine D luma chroma q p step g n seen line
+        → s ≡ withLine (middle D) (g .sums) line → TookLine D luma chroma q p n step g (record { seen = seen; sums = s })
+    line-took {n} {seen} {line} {s} h e = record {
+      tested = h .tested;
+      kept = h .kept;
+      summed = λ y. e ∙ h .summed y;
+      grown = λ b m.
+          subst (NineMost (b + n * (4095 * 4095))) (sym e)
+          (line-grown (omega (arith, middle-most D one, most-small D twelve)) m (h .few));
+    }

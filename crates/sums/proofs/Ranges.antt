@@ -2,13 +2,16 @@
 use mathlib.Core.Path.{_≡_, sym, _∙_, ap, subst}
 use mathlib.Core.Bool.{true, _&&_}
 use mathlib.Core.List.{List}
-use Prim.Native.Nat.{ℕ, zero, suc, _+_, _-_, _*_, _/_, _^_, _≤_, _<_}
+use Prim.Native.Nat.{ℕ, _+_, _-_, _*_, _/_, _^_, _≤_, _<_}
 use native.Mathlib.Omega.{arith}
 use lib.IntN.{ℤ, pos, natAbs}
 use lib.Dec.{T}
 use lib.ListN.{getD}
 use lib.Signed.{nonNeg}
+use Rattle.numbers.specs.Colour.{rowsUp, columnsLeft}
 use Rattle.numbers.specs.Depth.{bitsOf, most}
+use Rattle.numbers.specs.declared.colour.ColourDirection.{ColourDirection}
+use Rattle.numbers.specs.declared.colour.ColourDirection.the-variants.{Centre, Above, Left}
 use Rattle.numbers.specs.declared.depth.Depth.{Depth}
 use Rattle.numbers.specs.declared.depth.Depth.the-variants.{Eight, Ten, Twelve}
 use mir.Syntax.{w32}
@@ -18,32 +21,21 @@ use Rattle.zint.proofs.Range.{and-both, inside-abs, inside-pos}
 use Rattle.terms.specs.Terms.{entry, eighth, middle, squared}
 use Rattle.zint.proofs.Naturals.{pow-le}
 use Rattle.terms.proofs.Most.{eighth-in, squared-in, middle-most}
-use Rattle.sums.specs.Sample.{own, behind, inRange, Terms, terms}
+use Rattle.sums.specs.Sample.{directionLuma, inRange, terms}
+use Rattle.sums.specs.Sum.{TermsMost}
+use Rattle.sums.specs.Way.{behind}
 
--- the direction's luma, by its distance from the centre
-pub own-at : (direction : ℕ) (luma : List ℤ) (x y : ℕ) → 1 ≤ x → 1 ≤ y → own direction luma x y ≡ getD luma (y * 256 + x - behind direction) (pos 0)
-own-at zero luma x y hx hy = ap (λ i. getD luma i (pos 0)) (omega arith)
-own-at (suc zero) luma x y hx hy = ap (λ i. getD luma i (pos 0)) (omega arith)
-own-at (suc (suc direction)) luma x y hx hy = ap (λ i. getD luma i (pos 0)) (omega arith)
+-- the direction's luma of a list, by its distance from the centre
+pub luma-at : (direction : ColourDirection) (luma : List ℤ) (x y : ℕ) → 1 ≤ x → 1 ≤ y
+    → directionLuma direction (entry luma) x y ≡ getD luma (y * 256 + x - behind direction) (pos 0)
+luma-at Centre luma x y hx hy = ap (λ i. getD luma i (pos 0)) (omega arith)
+luma-at Above luma x y hx hy = ap (λ i. getD luma i (pos 0)) (omega arith)
+luma-at Left luma x y hx hy = ap (λ i. getD luma i (pos 0)) (omega arith)
 
-pub behind-most : (direction : ℕ) → behind direction ≤ 256
-behind-most zero = omega arith
-behind-most (suc zero) = omega arith
-behind-most (suc (suc direction)) = omega arith
-
--- and from the place where a run's centres start
-pub own-here : (direction : ℕ) (luma : List ℤ) (i y b : ℕ) → 1 ≤ y → b ≡ behind direction
-    → getD luma (y * 256 + 1 - b + i) (pos 0) ≡ own direction luma (suc i) y
-own-here direction luma i y b hy e =
-    ap (λ k. getD luma k (pos 0)) (omega (arith, behind-most direction)) ∙ sym (own-at direction luma (suc i) y (omega arith) hy)
-
-pub centre-here : (xs : List ℤ) (i y : ℕ) → getD xs (y * 256 + 1 + i) (pos 0) ≡ entry xs (suc i) y
-centre-here xs i y = ap (λ k. getD xs k (pos 0)) (omega arith)
-
-pub record TermsMost (m : ℕ) (t : Terms) : Type 0 where
-  pub own : t .own ≤ m
-  pub square : t .square ≤ m
-  pub middle : t .middle ≤ m
+pub behind-most : (direction : ColourDirection) → (rowsUp direction ≤ 1) × (columnsLeft direction ≤ 1) × (behind direction ≤ 256)
+behind-most Centre = (omega arith, omega arith, omega arith)
+behind-most Above = (omega arith, omega arith, omega arith)
+behind-most Left = (omega arith, omega arith, omega arith)
 
 -- what refusal 13 leaves
 pub range-parts : (M : ℕ) (v c k : ℤ) → inRange M v c k ≡ true

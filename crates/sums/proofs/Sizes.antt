@@ -1,57 +1,39 @@
 -- How large the sums are: each sample in range adds at most M x M to each of the nine, with D open. Assumes nothing.
 use mathlib.Core.Path.{_≡_}
 use mathlib.Core.Bool.{true}
-use mathlib.Core.List.{List}
 use Prim.Native.Nat.{ℕ, _+_, _*_, _≤_}
-use native.Mathlib.Nat as N
 use native.Mathlib.Omega.{arith}
 use lib.IntN.{ℤ}
 use Rattle.numbers.specs.Depth.{most}
+use Rattle.numbers.specs.declared.colour.ColourDirection.{ColourDirection}
 use Rattle.zint.proofs.Range.{inside-abs}
 use Rattle.sums.specs.declared.nine.Nine.{Nine}
 use Rattle.sums.specs.declared.window.Window.{Window}
-use Rattle.sums.specs.Sample.{isRead, Terms}
+use Rattle.sums.specs.Sample.{inRangeAt}
 use Rattle.sums.specs.Places.{counts, walk}
-use Rattle.sums.specs.Sum.{none, added, oneMore, sumsOf, countOf, isReadable, NineMost}
+use Rattle.sums.specs.Sum.{none, oneMore, sumsOf, countOf, isReadable, NineMost}
 use Rattle.sums.proofs.Walks.{rows-both, rows-true}
 use Rattle.sums.proofs.Counted.{counted}
-use Rattle.sums.proofs.Ranges.{TermsMost, range-parts, terms-most}
-use Rattle.sums.proofs.Steps.{wider, nine-start}
+use Rattle.sums.proofs.Ranges.{range-parts, terms-most}
+use Rattle.sums.proofs.Grown.{wider, nine-start, added-most}
 
 -- what a readable window has at each place that counts
-readable-at : (M direction : ℕ) (luma chroma : List ℤ) (w : Window) → isReadable M direction luma chroma w ≡ true
-    → (x y : ℕ) → counts w x y ≡ true → isRead M direction luma chroma x y ≡ true
+readable-at : (M : ℕ) (direction : ColourDirection) (luma chroma : ℕ → ℕ → ℤ) (w : Window) → isReadable M direction luma chroma w ≡ true
+    → (x y : ℕ) → counts w x y ≡ true → inRangeAt M direction luma chroma x y ≡ true
 unfolding walk
 readable-at M direction luma chroma w e x y c =
     let p = counted w x y c in
-    rows-true w (isRead M direction luma chroma) (w .«ref_height») e x y (omega arith) (omega arith) c
-
--- one sample more
-added-most : (m b y : ℕ) (s : Nine) (t : Terms) → NineMost b s → TermsMost m t → y ≤ m → NineMost (b + m * m) (added s t y)
-added-most m b y s t n h hy = record {
-  a00 = more (n .a00) (h .own) (h .own);
-  a01 = more (n .a01) (h .own) (h .square);
-  a02 = more (n .a02) (h .own) (h .middle);
-  a11 = more (n .a11) (h .square) (h .square);
-  a12 = more (n .a12) (h .square) (h .middle);
-  a22 = more (n .a22) (h .middle) (h .middle);
-  y0 = more (n .y0) (h .own) hy;
-  y1 = more (n .y1) (h .square) hy;
-  y2 = more (n .y2) (h .middle) hy;
-}
-  where
-    more : {s p q : ℕ} → s ≤ b → p ≤ m → q ≤ m → s + p * q ≤ b + m * m
-    more l h k = omega (arith, N.mul-le-mul h k)
+    rows-true w (inRangeAt M direction luma chroma) (w .«ref_height») e x y (omega arith) (omega arith) c
 
 -- the sample at a place that is readable
-step-most : (D direction : ℕ) (luma chroma : List ℤ) (x y b : ℕ) (s : Nine) → 1 ≤ D → isRead (most D) direction luma chroma x y ≡ true → NineMost b s
+step-most : (D : ℕ) (direction : ColourDirection) (luma chroma : ℕ → ℕ → ℤ) (x y b : ℕ) (s : Nine) → 1 ≤ D → inRangeAt (most D) direction luma chroma x y ≡ true → NineMost b s
     → NineMost (b + most D * most D) (oneMore D direction luma chroma x y s)
-unfolding isRead oneMore
+unfolding inRangeAt oneMore
 step-most D direction luma chroma x y b s one e n =
     let p = range-parts (most D) _ _ _ e in
     added-most (most D) b _ s _ n (terms-most D _ _ one (p .0) (p .1)) (inside-abs (most D) _ (p .2))
 
-pub sums-most : (D direction : ℕ) (luma chroma : List ℤ) (w : Window) → 1 ≤ D → isReadable (most D) direction luma chroma w ≡ true
+pub sums-most : (D : ℕ) (direction : ColourDirection) (luma chroma : ℕ → ℕ → ℤ) (w : Window) → 1 ≤ D → isReadable (most D) direction luma chroma w ≡ true
     → NineMost (countOf w * (most D * most D)) (sumsOf D direction luma chroma w)
 unfolding walk
 sums-most D direction luma chroma w one r =

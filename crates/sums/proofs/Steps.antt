@@ -2,38 +2,11 @@
 use mathlib.Core.Path.{_≡_, refl, _∙_, ap}
 use mathlib.Core.Bool.{Bool}
 use Prim.Native.Nat.{ℕ, _+_, _≤_}
-use native.Mathlib.Nat as N
 use native.Mathlib.Omega.{arith}
 use Rattle.sums.specs.declared.nine.Nine.{Nine}
-use Rattle.sums.specs.declared.lines.Totals.{Totals}
-use Rattle.sums.specs.Sum.{none, NineMost}
+use Rattle.sums.specs.declared.totals.Totals.{Totals}
 use Rattle.sums.specs.Took.{Took}
-
-pub wider : {m n : ℕ} {s : Nine} → m ≤ n → NineMost m s → NineMost n s
-wider l h = record {
-  a00 = N.le-trans (h .a00) l;
-  a01 = N.le-trans (h .a01) l;
-  a02 = N.le-trans (h .a02) l;
-  a11 = N.le-trans (h .a11) l;
-  a12 = N.le-trans (h .a12) l;
-  a22 = N.le-trans (h .a22) l;
-  y0 = N.le-trans (h .y0) l;
-  y1 = N.le-trans (h .y1) l;
-  y2 = N.le-trans (h .y2) l;
-}
-
-pub nine-start : (m : ℕ) → NineMost m none
-nine-start m = record {
-  a00 = omega arith;
-  a01 = omega arith;
-  a02 = omega arith;
-  a11 = omega arith;
-  a12 = omega arith;
-  a22 = omega arith;
-  y0 = omega arith;
-  y1 = omega arith;
-  y2 = omega arith;
-}
+use Rattle.sums.proofs.Grown.{wider}
 
 module _ {D : ℕ} where
   pub took-none : (g : Totals) → Took D (λ ok. ok) (λ s. s) 0 g g

@@ -1,12 +1,12 @@
 -- The order of two walks makes no difference where the order of two steps makes none. Assumes nothing.
 use mathlib.Core.Path.{_≡_, refl, sym, _∙_, ap}
 use mathlib.Core.Bool.{Bool, true, false, _&&_}
-use mathlib.Core.List.{List}
 use Prim.Native.Nat.{ℕ, zero, suc, _+_, _*_}
 use native.Mathlib.Omega.{arith}
 use lib.IntN.{ℤ}
+use Rattle.numbers.specs.declared.colour.ColourDirection.{ColourDirection}
 use Rattle.sums.specs.declared.nine.Nine.{Nine}
-use Rattle.sums.specs.Sample.{Terms}
+use Rattle.sums.specs.declared.sample.Terms.{Terms}
 use Rattle.sums.specs.Places.{fold}
 use Rattle.sums.specs.Sum.{added, oneMore}
 use Rattle.sums.specs.Took.{readable}
@@ -41,7 +41,7 @@ and-swap true false true = refl
 and-swap true false false = refl
 and-swap false a b = refl
 
-pub readable-swap : (M direction : ℕ) (luma chroma : List ℤ) (x y p q : ℕ) (ok : Bool)
+pub readable-swap : (M : ℕ) (direction : ColourDirection) (luma chroma : ℕ → ℕ → ℤ) (x y p q : ℕ) (ok : Bool)
     → readable M direction luma chroma x y (readable M direction luma chroma p q ok) ≡ readable M direction luma chroma p q (readable M direction luma chroma x y ok)
 readable-swap M direction luma chroma x y p q ok = and-swap ok _ _
 
@@ -61,7 +61,7 @@ added-swap s t u y z = λ j. record {
   y2 = later (s .y2) (t .middle * y) (u .middle * z) j;
 }
 
-pub more-swap : (D direction : ℕ) (luma chroma : List ℤ) (x y p q : ℕ) (s : Nine)
+pub more-swap : (D : ℕ) (direction : ColourDirection) (luma chroma : ℕ → ℕ → ℤ) (x y p q : ℕ) (s : Nine)
     → oneMore D direction luma chroma x y (oneMore D direction luma chroma p q s) ≡ oneMore D direction luma chroma p q (oneMore D direction luma chroma x y s)
 unfolding oneMore
 more-swap D direction luma chroma x y p q s = added-swap s _ _ _ _

@@ -2,23 +2,23 @@
 use mathlib.Core.Path.{_≡_, refl, sym, _∙_, ap}
 use mathlib.Core.Bool.{Bool, true, false, cond}
 use mathlib.Core.List.{List}
-use Prim.Native.Nat.{ℕ, _+_, _*_, _^_, _≤_}
+use Prim.Native.Nat.{ℕ, _+_, _*_, _-_, _^_, _≤_}
 use native.Mathlib.Omega.{arith}
 use lib.IntN.{ℤ}
 use Rattle.numbers.specs.Depth.{most}
+use Rattle.numbers.specs.declared.colour.ColourDirection.{ColourDirection}
 use Rattle.zint.proofs.Range.{pos-inside}
-use Rattle.terms.specs.Terms.{middle}
 use Rattle.sums.specs.declared.nine.Nine.{Nine}
-use Rattle.sums.specs.declared.lines.Totals.{Totals}
+use Rattle.sums.specs.declared.totals.Totals.{Totals}
 use Rattle.sums.specs.declared.window.Window.{Window}
 use Rattle.sums.specs.declared.window.Gathered.the-variants.{Sums, OutOfRange}
-use Rattle.sums.specs.Places.{walk, wide, high}
-use Rattle.sums.specs.Sum.{none, oneMore, sumsOf, isReadable, gathered, NineMost, Laid}
-use Rattle.sums.specs.Way.{unseen, allIn, scaled}
-use Rattle.sums.specs.Took.{Took, TookAbove, TookBelow, empty, readable}
+use Rattle.sums.specs.Places.{walk, wide, high, rowsAbove, few, block, above, below}
+use Rattle.sums.specs.Sum.{oneMore, sumsOf, isReadable, gathered, Laid}
+use Rattle.sums.specs.Way.{behind, unseen, allIn}
+use Rattle.sums.specs.Took.{Took, TookAll, Grid, empty, readable, aboveRows, belowRows, belowColumns}
 use Rattle.sums.proofs.Runs.{walk-is}
-use Rattle.sums.proofs.Steps.{took-then, took-as, nine-start}
-use Rattle.sums.proofs.Blocks.{Block}
+use Rattle.sums.proofs.Steps.{took-then, took-as}
+use Rattle.sums.proofs.Blocks.{Block, rows-grid, columns-grid}
 
 -- rows of a window that refusal 11 leaves
 pub laid-block : {w : Window} {luma chroma : List ℤ} (m r n : ℕ) → Laid w luma chroma → m + r ≤ high w → n ≤ wide w → Block m r n luma chroma
@@ -29,38 +29,44 @@ laid-block m r n h rows columns = record {
   chroma-long = λ j l. omega (arith, h .chroma-long);
 }
 
-nothing-scaled : (m : ℕ) → scaled m none ≡ none
-nothing-scaled m =
-    let z : 0 * m ≡ 0 = omega arith in
-    let y : 0 * (m * m) ≡ 0 = omega arith in
-    λ j. record { a00 = 0; a01 = 0; a02 = z j; a11 = 0; a12 = z j; a22 = y j; y0 = 0; y1 = 0; y2 = z j }
+-- so that its lines stand in the lists
+module _ (w : Window) (luma chroma : List ℤ) (direction : ColourDirection) (h : Laid w luma chroma) where
+  pub above-held : Grid (aboveRows w) (behind direction) luma chroma
+  above-held = rows-grid 0 _ _ direction luma chroma (laid-block 0 _ _ h (omega arith) (omega arith))
 
-nothing-in : (M : ℕ) → allIn M unseen ≡ true
-nothing-in M = simp (pos-inside (8 * M + 7) 0 (omega arith), pos-inside M 0 (omega arith))
+  pub below-held : Grid (belowRows w) (behind direction) luma chroma
+  below-held = rows-grid _ _ _ direction luma chroma (laid-block (rowsAbove w) (high w - rowsAbove w) (few w) h (omega arith) (omega arith))
 
-module _ (D direction : ℕ) (luma chroma : List ℤ) (w : Window) (g r : Totals) (a : TookAbove D direction luma chroma w g) (b : TookBelow D direction luma chroma w g r) where
-  whole : Took D (walk w (readable (most D) direction luma chroma)) (walk w (oneMore D direction luma chroma)) (2 ^ 41) empty r
-  whole = took-as (λ ok. sym (walk-is w _ ok)) (λ s. sym (walk-is w _ s)) (omega arith) (took-then a b)
+  pub columns-held : Grid (belowColumns w) (behind direction) luma chroma
+  columns-held = columns-grid _ _ _ direction luma chroma (laid-block (rowsAbove w) (high w - rowsAbove w) (few w) h (omega arith) (omega arith))
 
-  pub readable-is : allIn (most D) (r .seen) ≡ isReadable (most D) direction luma chroma w
-  readable-is = whole .tested ∙ ap (walk w (readable (most D) direction luma chroma)) (nothing-in (most D))
+module _ (D : ℕ) (direction : ColourDirection) (luma chroma : ℕ → ℕ → ℤ) (w : Window) where
+  -- the places inside the above lines, and then those below them
+  abbrev pub TookBlock : ℕ → ℕ → ℕ → Totals → Totals → Type 0
+  TookBlock m r n g t = Took D (block m r n (readable (most D) direction luma chroma)) (block m r n (oneMore D direction luma chroma)) (2 ^ 40) g t
 
-  pub sums-are : allIn (most D) (r .seen) ≡ true → scaled (middle D) (r .sums) ≡ sumsOf D direction luma chroma w
-  sums-are h = whole .summed h ∙ ap (walk w (oneMore D direction luma chroma)) (nothing-scaled (middle D))
+  pub took-all : {g r : Totals} → TookBlock 0 (rowsAbove w) (wide w) empty g → TookBlock (rowsAbove w) (high w - rowsAbove w) (few w) g r
+      → TookAll D direction luma chroma w r
+  unfolding above below
+  took-all a b = took-as (λ ok. sym (walk-is w _ ok)) (λ s. sym (walk-is w _ s)) (omega arith) (took-then a b)
 
-  pub sums-small : NineMost (2 ^ 41) (r .sums)
-  sums-small = whole .grown 0 (nine-start 0)
+  nothing-in : allIn (most D) unseen ≡ true
+  nothing-in = simp (pos-inside (8 * most D + 7) 0 (omega arith), pos-inside (most D) 0 (omega arith))
 
-  pub gathered-out : allIn (most D) (r .seen) ≡ false → gathered D direction luma chroma w ≡ OutOfRange
+  -- what the totals of all places give
+  pub gathered-is : (r : Totals) → TookAll D direction luma chroma w r → cond (allIn (most D) (r .seen)) (Sums (r .sums)) OutOfRange ≡ gathered D direction luma chroma w
   unfolding gathered
-  gathered-out h = ap (λ t. cond t (Sums (sumsOf D direction luma chroma w)) OutOfRange) (sym readable-is ∙ h)
+  gathered-is r t = (λ j. cond (readable-is j) (Sums (r .sums)) OutOfRange) ∙ go (isReadable (most D) direction luma chroma w) refl
+    where
+      readable-is : allIn (most D) (r .seen) ≡ isReadable (most D) direction luma chroma w
+      readable-is = t .tested ∙ ap (walk w (readable (most D) direction luma chroma)) nothing-in
 
-  pub gathered-in : allIn (most D) (r .seen) ≡ true → gathered D direction luma chroma w ≡ Sums (scaled (middle D) (r .sums))
-  unfolding gathered
-  gathered-in h = ap (λ t. cond t (Sums (sumsOf D direction luma chroma w)) OutOfRange) (sym readable-is ∙ h) ∙ ap Sums (sym (sums-are h))
+      go : (ok : Bool) → isReadable (most D) direction luma chroma w ≡ ok → cond ok (Sums (r .sums)) OutOfRange ≡ cond ok (Sums (sumsOf D direction luma chroma w)) OutOfRange
+      go true e = ap Sums (t .summed (readable-is ∙ e))
+      go false e = refl
 
 -- which of the two it is
-pub gathered-sums : (D direction : ℕ) (luma chroma : List ℤ) (w : Window) (s : Nine) → gathered D direction luma chroma w ≡ Sums s
+pub gathered-sums : (D : ℕ) (direction : ColourDirection) (luma chroma : ℕ → ℕ → ℤ) (w : Window) (s : Nine) → gathered D direction luma chroma w ≡ Sums s
     → (isReadable (most D) direction luma chroma w ≡ true) × (s ≡ sumsOf D direction luma chroma w)
 unfolding gathered
 gathered-sums D direction luma chroma w s = go (isReadable (most D) direction luma chroma w) refl
@@ -70,7 +76,7 @@ gathered-sums D direction luma chroma w s = go (isReadable (most D) direction lu
     go true r e = (r, cc)
     go false r e = let z : _≡_ {A = ℕ} 0 1 = cc in absurd (omega arith)
 
-pub gathered-none : (D direction : ℕ) (luma chroma : List ℤ) (w : Window) → gathered D direction luma chroma w ≡ OutOfRange
+pub gathered-none : (D : ℕ) (direction : ColourDirection) (luma chroma : ℕ → ℕ → ℤ) (w : Window) → gathered D direction luma chroma w ≡ OutOfRange
     → isReadable (most D) direction luma chroma w ≡ false
 unfolding gathered
 gathered-none D direction luma chroma w = go (isReadable (most D) direction luma chroma w) refl

@@ -1,6 +1,8 @@
--- What a direction needs at a place, a sample's terms, the places that count, the nine sums over them, and the code's way to the sums.
+-- What a direction needs at a place, a sample's terms, the places that count, the nine sums over them, and the code's way to the sums. Sample, Places
+-- and Sum say what is right; Way, Fast and Took say how the code gets there.
 pub mod Sample
 pub mod Places
 pub mod Sum
 pub mod Way
+pub mod Fast
 pub mod Took

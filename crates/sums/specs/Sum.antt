@@ -6,12 +6,15 @@ use Prim.Native.Nat.{ℕ, _+_, _*_, _≤_}
 use lib.IntN.{ℤ, natAbs}
 use lib.ListN.{length}
 use Rattle.numbers.specs.Depth.{most}
-use Rattle.terms.specs.Terms.{stride, entry}
+use Rattle.numbers.specs.declared.colour.ColourDirection.{ColourDirection}
+use Rattle.terms.specs.Terms.{stride}
+use Rattle.terms.specs.Reference.{mostLines}
+use Rattle.sums.specs.declared.sample.Terms.{Terms}
 use Rattle.sums.specs.declared.nine.Nine.{Nine}
 use Rattle.sums.specs.declared.window.Gathered.{Gathered}
 use Rattle.sums.specs.declared.window.Gathered.the-variants.{Sums, OutOfRange}
 use Rattle.sums.specs.declared.window.Window.{Window}
-use Rattle.sums.specs.Sample.{own, isRead, Terms, terms}
+use Rattle.sums.specs.Sample.{directionLuma, inRangeAt, terms}
 use Rattle.sums.specs.Places.{walk}
 
 abbrev pub none : Nine
@@ -32,22 +35,32 @@ added s t y = record {
 }
 
 -- the sample at column x and row y more
-unfoldable pub oneMore : ℕ → ℕ → List ℤ → List ℤ → ℕ → ℕ → Nine → Nine
-oneMore D direction luma chroma x y s = added s (terms D (own direction luma x y) (entry luma x y)) (natAbs (entry chroma x y))
+unfoldable pub oneMore : ℕ → ColourDirection → (ℕ → ℕ → ℤ) → (ℕ → ℕ → ℤ) → ℕ → ℕ → Nine → Nine
+oneMore D direction luma chroma x y s = added s (terms D (directionLuma direction luma x y) (luma x y)) (natAbs (chroma x y))
 
 -- over the places that count: the sums, how many there are, and whether all that is needed is in range
-abbrev pub sumsOf : ℕ → ℕ → List ℤ → List ℤ → Window → Nine
+abbrev pub sumsOf : ℕ → ColourDirection → (ℕ → ℕ → ℤ) → (ℕ → ℕ → ℤ) → Window → Nine
 sumsOf D direction luma chroma w = walk w (oneMore D direction luma chroma) none
 
 abbrev pub countOf : Window → ℕ
 countOf w = walk w (λ x y n. n + 1) 0
 
-abbrev pub isReadable : ℕ → ℕ → List ℤ → List ℤ → Window → Bool
-isReadable M direction luma chroma w = walk w (λ x y ok. ok && isRead M direction luma chroma x y) true
+abbrev pub isReadable : ℕ → ColourDirection → (ℕ → ℕ → ℤ) → (ℕ → ℕ → ℤ) → Window → Bool
+isReadable M direction luma chroma w = walk w (λ x y ok. ok && inRangeAt M direction luma chroma x y) true
 
 -- both of the two at once: the sums, or that something is not in range
-unfoldable pub gathered : ℕ → ℕ → List ℤ → List ℤ → Window → Gathered
+unfoldable pub gathered : ℕ → ColourDirection → (ℕ → ℕ → ℤ) → (ℕ → ℕ → ℤ) → Window → Gathered
 gathered D direction luma chroma w = cond (isReadable (most D) direction luma chroma w) (Sums (sumsOf D direction luma chroma w)) OutOfRange
+
+-- "one of the nine colour sums exceeds 2,147,483,647": the largest that is accepted
+abbrev pub mostSum : ℕ
+mostSum = 2147483647
+
+-- each of the three terms is at most m
+pub record TermsMost (m : ℕ) (t : Terms) : Type 0 where
+  pub own : t .own ≤ m
+  pub square : t .square ≤ m
+  pub middle : t .middle ≤ m
 
 -- each of the nine is at most m
 pub record NineMost (m : ℕ) (s : Nine) : Type 0 where
@@ -63,7 +76,7 @@ pub record NineMost (m : ℕ) (s : Nine) : Type 0 where
 
 -- refusal 11 is not given
 pub record Laid (w : Window) (luma chroma : List ℤ) : Type 0 where
-  pub wide : w .«ref_width» ≤ 256
-  pub high : w .«ref_height» ≤ 256
+  pub wide : w .«ref_width» ≤ mostLines
+  pub high : w .«ref_height» ≤ mostLines
   pub luma-long : w .«ref_height» * stride ≤ length luma
   pub chroma-long : w .«ref_height» * stride ≤ length chroma

@@ -1,7 +1,10 @@
 // The nine colour sums over the counted places of a reference window (document 01, Colour parameters).
-pub mod lines;
+mod fast;
+mod lines;
+mod long;
 pub mod nine;
-pub mod part;
+mod places;
 pub mod sample;
-pub mod seen;
+mod seen;
+mod totals;
 pub mod window;

@@ -1,19 +1,10 @@
-// Lines of places of a reference window, tested and added (document 01, Colour parameters): a line is a part of a row, or of a column.
-use crate::nine::Nine;
-use crate::part::Part;
-use crate::sample::Sample;
-use crate::sample::Scale;
-use crate::seen::Seen;
+// Lines of places of a reference window, tested and added place by place (document 01, Colour parameters): a line is a part of a row, or of a column.
+use crate::sample::DepthTerms;
+use crate::totals::Totals;
 ghost use Prim.Native.Nat.{_^_};
 ghost use Rattle.sums.specs.Sum.{NineMost};
-ghost use Rattle.sums.specs.Way.{Scaled};
-ghost use Rattle.sums.specs.Took.{Line, Grid, TookLine, TookLines};
-
-// What the places so far have: the digits of their values, and their sums.
-pub struct Totals {
-    pub seen: Seen,
-    pub sums: Nine,
-}
+ghost use Rattle.sums.specs.Way.{OfDepth};
+ghost use Rattle.sums.specs.Took.{HeldPlaces, Grid, TookLine, TookLines};
 
 // Lines of places: the centre of the first place, how many lines and how far apart, how many places in each and how far apart.
 pub struct Lines {
@@ -24,8 +15,8 @@ pub struct Lines {
     pub step: usize,
 }
 
-// One line more: n places, with the direction's luma from `own` on and the centre and chroma from `at` on.
-fn gather_line(
+// One line more, place by place: n places, with the direction's luma from `own` on and the centre and chroma from `at` on.
+fn short_line(
     g: Totals,
     luma: &[i32],
     chroma: &[i32],
@@ -33,48 +24,42 @@ fn gather_line(
     at: usize,
     n: usize,
     step: usize,
-    scale: Scale,
+    depth: DepthTerms,
 ) -> Totals
-    requires { ⌜ Line own at n step (now luma) (now chroma) × NineMost (2 ^ 41) (g .sums) × Scaled scale ⌝ }
-    ensures { λ r. ⌜ TookLine (scale .d) (now (luma .entry)) (now (chroma .entry)) own at n step g r ⌝ }
+    requires { ⌜ HeldPlaces own at n step (now luma) (now chroma) × NineMost (2 ^ 41) (g .sums) × OfDepth depth ⌝ }
+    ensures { λ r. ⌜ TookLine (depth .d) (now (luma .entry)) (now (chroma .entry)) own at n step g r ⌝ }
 {
-    let mut seen = g.seen;
-    let mut part = Part::new();
+    let mut t = g;
     let mut i = 0;
     while i < n {
         let far = i * step;
         let v = luma[own + far];
         let c = luma[at + far];
         let k = chroma[at + far];
-        seen = seen.with(v, c, k);
-        part = part.add(Sample::of(v, c, k, scale));
+        t = t.add(v, c, k, depth);
         i += 1;
     }
-    let s = g.sums;
-    Totals {
-        seen,
-        sums: s.plus(part),
-    }
+    t
 }
 
 // All lines of l more; the direction's luma stands `back` entries before the centre.
-pub fn gather_lines(
+pub fn short_lines(
     g: Totals,
     luma: &[i32],
     chroma: &[i32],
     l: Lines,
     back: usize,
-    scale: Scale,
+    depth: DepthTerms,
 ) -> Totals
-    requires { ⌜ Grid l back (now luma) (now chroma) × NineMost (2 ^ 40) (g .sums) × Scaled scale ⌝ }
-    ensures { λ r. ⌜ TookLines (scale .d) (now (luma .entry)) (now (chroma .entry)) back l g r ⌝ }
+    requires { ⌜ Grid l back (now luma) (now chroma) × NineMost (2 ^ 40) (g .sums) × OfDepth depth ⌝ }
+    ensures { λ r. ⌜ TookLines (depth .d) (now (luma .entry)) (now (chroma .entry)) back l g r ⌝ }
 {
     let n = l.lines;
     let mut t = g;
     let mut j = 0;
     while j < n {
         let at = l.at + j * l.apart;
-        t = gather_line(t, luma, chroma, at - back, at, l.places, l.step, scale);
+        t = short_line(t, luma, chroma, at - back, at, l.places, l.step, depth);
         j += 1;
     }
     t

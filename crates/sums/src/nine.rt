@@ -1,11 +1,9 @@
-// The nine sums of a window (document 01, Colour parameters): sums of parts, with the middle of the range carried as 1 until all samples are in.
-use crate::part::Part;
+// "adding a sample hands the sums on" (document 01, Colour parameters): the nine sums, six of products of two terms and three of a term and chroma.
+use crate::sample::Terms;
 ghost use mathlib.Core.Path.{_≡_};
 ghost use Prim.Native.Nat.{_+_, _*_, _≤_, _^_};
-ghost use Rattle.sums.specs.Sum.{none, NineMost};
-ghost use Rattle.sums.specs.Way.{plus, scaled};
+ghost use Rattle.sums.specs.Sum.{none, added, NineMost, TermsMost};
 
-// The nine sums: six of products of two terms, three of a term and chroma.
 pub struct Nine {
     pub a00: u64,
     pub a01: u64,
@@ -18,15 +16,18 @@ pub struct Nine {
     pub y2: u64,
 }
 
-// A sum with the sum of a part added.
-fn sum(a: u64, b: u32) -> u64
-    requires { ⌜ a ≤ 2 ^ 41 ⌝ }
-    ensures { λ r. ⌜ r ≡ a + b ⌝ }
+// A sum with the product of a and b added.
+fn more(sum: u64, a: u32, b: u32) -> u64
+    requires { ⌜ (sum ≤ 2 ^ 62) × (a ≤ 4095) × (b ≤ 4095) ⌝ }
+    ensures { λ r. ⌜ r ≡ sum + a * b ⌝ }
 {
-    a + b as u64
+    sum + (a * b) as u64
 }
 
 impl Nine {
+    // The largest sum that refusal 14 lets pass.
+    pub const MOST: u64 = 2147483647;
+
     // No sample yet.
     pub fn new() -> Nine
         ensures { λ r. ⌜ r ≡ none ⌝ }
@@ -44,40 +45,21 @@ impl Nine {
         }
     }
 
-    // A part more.
-    pub fn plus(self, p: Part) -> Nine
-        requires { ⌜ NineMost (2 ^ 41) self ⌝ }
-        ensures { λ r. ⌜ r ≡ plus self p ⌝ }
+    // One sample more, with its terms and its chroma.
+    pub fn add(self, t: Terms, chroma: u32) -> Nine
+        requires { ⌜ NineMost (2 ^ 62) self × TermsMost 4095 t × (chroma ≤ 4095) ⌝ }
+        ensures { λ r. ⌜ r ≡ added self t chroma ⌝ }
     {
         Nine {
-            a00: sum(self.a00, p.a00),
-            a01: sum(self.a01, p.a01),
-            a02: sum(self.a02, p.a02),
-            a11: sum(self.a11, p.a11),
-            a12: sum(self.a12, p.a12),
-            a22: sum(self.a22, p.a22),
-            y0: sum(self.y0, p.y0),
-            y1: sum(self.y1, p.y1),
-            y2: sum(self.y2, p.y2),
-        }
-    }
-
-    // The sums with the middle of the range for the 1 that stood for it.
-    pub fn scaled(self, middle: u32) -> Nine
-        requires { ⌜ NineMost (2 ^ 41) self × (middle ≤ 2048) ⌝ }
-        ensures { λ r. ⌜ r ≡ scaled middle self ⌝ }
-    {
-        let m = middle as u64;
-        Nine {
-            a00: self.a00,
-            a01: self.a01,
-            a02: self.a02 * m,
-            a11: self.a11,
-            a12: self.a12 * m,
-            a22: self.a22 * (m * m),
-            y0: self.y0,
-            y1: self.y1,
-            y2: self.y2 * m,
+            a00: more(self.a00, t.own, t.own),
+            a01: more(self.a01, t.own, t.square),
+            a02: more(self.a02, t.own, t.middle),
+            a11: more(self.a11, t.square, t.square),
+            a12: more(self.a12, t.square, t.middle),
+            a22: more(self.a22, t.middle, t.middle),
+            y0: more(self.y0, t.own, chroma),
+            y1: more(self.y1, t.square, chroma),
+            y2: more(self.y2, t.middle, chroma),
         }
     }
 }

@@ -1,10 +1,10 @@
 // Refusal 13 (document 01, Refusal numbers), tested once for all samples: 8M+7 and M have nothing but ones for binary digits, so all values are in
 // range exactly when the digits that any of them has are.
-use crate::sample::Scale;
+use crate::sample::DepthTerms;
 use calls::range;
 ghost use mathlib.Core.Path.{_≡_};
 ghost use Rattle.numbers.specs.Depth.{most};
-ghost use Rattle.sums.specs.Way.{unseen, allIn, Met, Scaled};
+ghost use Rattle.sums.specs.Way.{unseen, seenWith, allIn, Met, OfDepth};
 
 // The binary digits that any luma value, and any chroma value, had so far.
 pub struct Seen {
@@ -22,7 +22,7 @@ impl Seen {
 
     // The values of one sample more.
     pub fn with(self, v: i32, c: i32, k: i32) -> Seen
-        ensures { λ r. ⌜ Met v c k self r ⌝ }
+        ensures { λ r. ⌜ (r ≡ seenWith self v c k) × Met v c k self r ⌝ }
     {
         Seen {
             luma: self.luma | v | c,
@@ -31,12 +31,12 @@ impl Seen {
     }
 
     // Whether all values so far are in range.
-    pub fn is_in_range(self, scale: Scale) -> bool
-        requires { ⌜ Scaled scale ⌝ }
-        ensures { λ r. ⌜ r ≡ allIn (most (scale .d)) self ⌝ }
+    pub fn is_in_range(self, depth: DepthTerms) -> bool
+        requires { ⌜ OfDepth depth ⌝ }
+        ensures { λ r. ⌜ r ≡ allIn (most (depth .d)) self ⌝ }
     {
-        let a = range::in_range(self.luma, scale.top);
-        let b = range::in_range(self.chroma, scale.most);
+        let a = range::in_range(self.luma, depth.top);
+        let b = range::in_range(self.chroma, depth.most);
         a & b
     }
 }

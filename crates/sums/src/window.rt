@@ -1,25 +1,33 @@
-// "Each reference sample that counts (index 1 to dimension - 2, and inside the above or left lines)" (document 01, Colour parameters): whole rows
-// inside the above lines, then the first columns of the rows below them. Places that cannot count are not visited.
+// A reference window: how many of its places count, and the nine sums over them (document 01, Colour parameters).
 use crate::lines;
-use crate::lines::Lines;
-use crate::lines::Totals;
+use crate::long;
+use crate::long::LongTotals;
 use crate::nine::Nine;
-use crate::sample::Scale;
-use crate::seen::Seen;
+use crate::places;
+use crate::sample::DepthTerms;
+use crate::totals::Totals;
+use numbers::colour::ColourDirection;
 ghost use mathlib.Core.Path.{_≡_};
-ghost use Prim.Native.Nat.{_-_, _≤_, _^_};
-ghost use Rattle.sums.specs.Sample.{behind};
-ghost use Rattle.sums.specs.Places.{rowsAbove, few};
-ghost use Rattle.sums.specs.Sum.{Laid, NineMost, countOf, gathered};
-ghost use Rattle.sums.specs.Way.{Scaled};
-ghost use Rattle.sums.specs.Took.{TookAbove, TookBelow};
+ghost use mathlib.Core.Bool.{cond};
+ghost use Prim.Native.Nat.{_≤_};
+ghost use Rattle.numbers.specs.Depth.{most};
+ghost use Rattle.terms.specs.Terms.{entry};
+ghost use Rattle.terms.specs.Reference.{mostLines};
+ghost use Rattle.sums.specs.Sum.{Laid, countOf, gathered};
+ghost use Rattle.sums.specs.Way.{allIn, OfDepth};
+ghost use Rattle.sums.specs.Took.{TookAll};
 
-// The sizes of a reference window. Its lists have rows of 256 entries.
+// The sizes of a reference window. The rows of its lists lie `Reference::STRIDE` entries apart.
 pub struct Window {
     pub ref_width: usize,
     pub ref_height: usize,
     pub above_lines: usize,
     pub left_lines: usize,
+}
+
+impl Window {
+    // Fewer places or columns than these are too few for the fast way.
+    const FEW: usize = 4;
 }
 
 // The nine sums, or that a value which is needed is not in range.
@@ -28,114 +36,94 @@ pub enum Gathered {
     OutOfRange,
 }
 
-// a - b, and 0 where b is more.
-fn less(a: usize, b: usize) -> usize
-    ensures { λ r. ⌜ r ≡ a - b ⌝ }
-{
-    if a < b { 0 } else { a - b }
-}
-
-// How many rows have all their columns inside the above lines.
-fn rows_above(w: Window) -> usize
-    ensures { λ r. ⌜ r ≡ rowsAbove w ⌝ }
-{
-    pick::least(less(w.above_lines, 1), less(w.ref_height, 2))
-}
-
-// How many columns of the other rows are inside the left lines.
-fn few(w: Window) -> usize
-    ensures { λ r. ⌜ r ≡ few w ⌝ }
-{
-    pick::least(less(w.left_lines, 1), less(w.ref_width, 2))
-}
-
 // How many places count.
 pub fn count_of(w: Window) -> usize
-    requires { ⌜ (w .«ref_width» ≤ 256) × (w .«ref_height» ≤ 256) ⌝ }
+    requires { ⌜ (w .«ref_width» ≤ mostLines) × (w .«ref_height» ≤ mostLines) ⌝ }
     ensures { λ r. ⌜ r ≡ countOf w ⌝ }
 {
-    let above = rows_above(w);
-    above * less(w.ref_width, 2) + (less(w.ref_height, 2) - above) * few(w)
+    let above = places::rows_above(w);
+    above * places::monus(w.ref_width, 2)
+        + (places::monus(w.ref_height, 2) - above) * places::few(w)
 }
 
-// How far before the centre, in entries, the direction's luma stands.
-fn behind(direction: u32) -> usize
-    ensures { λ r. ⌜ r ≡ behind direction ⌝ }
-{
-    match direction {
-        0 => 0,
-        1 => 256,
-        _ => 1,
-    }
-}
-
-// The rows inside the above lines, tested and added.
-fn gather_above(luma: &[i32], chroma: &[i32], w: Window, direction: u32, scale: Scale) -> Totals
-    requires { ⌜ Laid w (now luma) (now chroma) × Scaled scale ⌝ }
-    ensures { λ r. ⌜ TookAbove (scale .d) direction (now (luma .entry)) (now (chroma .entry)) w r ⌝ }
-{
-    let l = Lines {
-        at: 257,
-        lines: rows_above(w),
-        apart: 256,
-        places: less(w.ref_width, 2),
-        step: 1,
-    };
-    let g = Totals {
-        seen: Seen::new(),
-        sums: Nine::new(),
-    };
-    lines::gather_lines(g, luma, chroma, l, behind(direction), scale)
-}
-
-// The rows below them, inside the left lines: by columns where these are few, so that a line is long.
-fn gather_below(
-    g: Totals,
+// All places, place by place.
+fn gather_short(
     luma: &[i32],
     chroma: &[i32],
     w: Window,
-    direction: u32,
-    scale: Scale,
+    direction: ColourDirection,
+    depth: DepthTerms,
 ) -> Totals
-    requires { ⌜ Laid w (now luma) (now chroma) × NineMost (2 ^ 40) (g .sums) × Scaled scale ⌝ }
-    ensures { λ r. ⌜ TookBelow (scale .d) direction (now (luma .entry)) (now (chroma .entry)) w g r ⌝ }
+    requires { ⌜ Laid w (now luma) (now chroma) × OfDepth depth ⌝ }
+    ensures { λ r. ⌜ TookAll (depth .d) direction (entry (now (luma .entry))) (entry (now (chroma .entry))) w r ⌝ }
 {
-    let above = rows_above(w);
-    let rows = less(w.ref_height, 2) - above;
-    let columns = few(w);
-    let at = above * 256 + 257;
-    let back = behind(direction);
-    if columns < 4 {
-        let l = Lines {
-            at,
-            lines: columns,
-            apart: 1,
-            places: rows,
-            step: 256,
-        };
-        return lines::gather_lines(g, luma, chroma, l, back, scale);
-    }
-    let l = Lines {
-        at,
-        lines: rows,
-        apart: 256,
-        places: columns,
-        step: 1,
-    };
-    lines::gather_lines(g, luma, chroma, l, back, scale)
+    let back = places::behind(direction);
+    let t = lines::short_lines(
+        Totals::new(),
+        luma,
+        chroma,
+        places::above_rows(w),
+        back,
+        depth,
+    );
+    lines::short_lines(t, luma, chroma, places::below_rows(w), back, depth)
 }
 
-// The nine sums over the places that count, or that something which the direction's rule needs there is not in range.
-pub fn gather(luma: &[i32], chroma: &[i32], w: Window, direction: u32, scale: Scale) -> Gathered
-    requires { ⌜ Laid w (now luma) (now chroma) × Scaled scale ⌝ }
-    ensures { λ r. ⌜ r ≡ gathered (scale .d) direction (now (luma .entry)) (now (chroma .entry)) w ⌝ }
+// All places, the fast way: below the above lines by columns where these are few, so that a line is long.
+fn gather_long(
+    luma: &[i32],
+    chroma: &[i32],
+    w: Window,
+    direction: ColourDirection,
+    depth: DepthTerms,
+) -> Totals
+    requires { ⌜ Laid w (now luma) (now chroma) × OfDepth depth ⌝ }
+    ensures { λ r. ⌜ TookAll (depth .d) direction (entry (now (luma .entry))) (entry (now (chroma .entry))) w r ⌝ }
 {
-    let above = gather_above(luma, chroma, w, direction, scale);
-    let g = gather_below(above, luma, chroma, w, direction, scale);
+    let back = places::behind(direction);
+    let t = long::long_lines(
+        LongTotals::new(),
+        luma,
+        chroma,
+        places::above_rows(w),
+        back,
+        depth,
+    );
+    if places::few(w) < Window::FEW {
+        return long::long_lines(t, luma, chroma, places::below_columns(w), back, depth).totals(
+            depth,
+        );
+    }
+    long::long_lines(t, luma, chroma, places::below_rows(w), back, depth).totals(depth)
+}
+
+// What totals give: their sums, or that something is not in range.
+fn gathered_of(g: Totals, depth: DepthTerms) -> Gathered
+    requires { ⌜ OfDepth depth ⌝ }
+    ensures { λ r. ⌜ r ≡ cond (allIn (most (depth .d)) (g .seen)) (Gathered.Sums (g .sums)) Gathered.OutOfRange ⌝ }
+{
     let seen = g.seen;
-    if !seen.is_in_range(scale) {
+    if !seen.is_in_range(depth) {
         return Gathered::OutOfRange;
     }
     let s = g.sums;
-    Gathered::Sums(s.scaled(scale.middle))
+    Gathered::Sums(s)
+}
+
+// The nine sums over the n places that count, or that something which the direction's rule needs there is not in range.
+pub fn gather(
+    luma: &[i32],
+    chroma: &[i32],
+    w: Window,
+    n: usize,
+    direction: ColourDirection,
+    depth: DepthTerms,
+) -> Gathered
+    requires { ⌜ Laid w (now luma) (now chroma) × OfDepth depth ⌝ }
+    ensures { λ r. ⌜ r ≡ gathered (depth .d) direction (entry (now (luma .entry))) (entry (now (chroma .entry))) w ⌝ }
+{
+    if n < Window::FEW {
+        return gathered_of(gather_short(luma, chroma, w, direction, depth), depth);
+    }
+    gathered_of(gather_long(luma, chroma, w, direction, depth), depth)
 }

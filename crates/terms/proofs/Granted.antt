@@ -6,15 +6,25 @@ use lib.Dec.{leb}
 use borrow.Author.Tests.{leb-true}
 use Rattle.zint.proofs.Range.{and-both}
 use Rattle.terms.specs.Terms.{stride}
-use Rattle.terms.specs.Reference.{isReference, isLines}
+use Rattle.terms.specs.Reference.{mostLines, isSizes, isHeld, isReference, isLines}
 
-pub reference-all : (width height n : ℕ) → isReference width height n ≡ true → (width ≤ 256) × (height ≤ 256) × (height * stride ≤ n)
+pub sizes-all : (width height : ℕ) → isSizes width height ≡ true → (width ≤ mostLines) × (height ≤ mostLines)
+unfolding isSizes
+sizes-all width height e =
+    let p = and-both (leb width mostLines) (leb height mostLines) e in
+    (leb-true _ _ (p .0), leb-true _ _ (p .1))
+
+pub held-all : (height n : ℕ) → isHeld height n ≡ true → height * stride ≤ n
+unfolding isHeld
+held-all height n e = leb-true _ _ e
+
+pub reference-all : (width height n : ℕ) → isReference width height n ≡ true → (width ≤ mostLines) × (height ≤ mostLines) × (height * stride ≤ n)
 unfolding isReference
 reference-all width height n e =
-    let p = and-both (leb width 256 && leb height 256) (leb (height * stride) n) e in
-    let q = and-both (leb width 256) (leb height 256) (p .0) in
-    (leb-true _ _ (q .0), leb-true _ _ (q .1), leb-true _ _ (p .1))
+    let p = and-both (isSizes width height) (isHeld height n) e in
+    let s = sizes-all width height (p .0) in
+    (s .0, s .1, held-all height n (p .1))
 
-pub lines-all : (above left : ℕ) → isLines above left ≡ true → (above ≤ 256) × (left ≤ 256)
-unfolding isLines
-lines-all above left e = let p = and-both (leb above 256) (leb left 256) e in (leb-true _ _ (p .0), leb-true _ _ (p .1))
+pub lines-all : (above left : ℕ) → isLines above left ≡ true → (above ≤ mostLines) × (left ≤ mostLines)
+unfolding isSizes isLines
+lines-all above left e = sizes-all above left e

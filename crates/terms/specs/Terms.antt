@@ -10,7 +10,7 @@ use lib.Signed.{shrZ}
 abbrev pub stride : ℕ
 stride = 256
 
--- the entry at column x and row y
+-- what stands at column x and row y, the entry that the column and the row name
 abbrev pub entry : List ℤ → ℕ → ℕ → ℤ
 entry xs x y = getD xs (y * stride + x) (pos 0)
 

@@ -15,7 +15,7 @@ ghost use Rattle.terms.specs.Terms.{eighth, middle, squared};
 pub fn depth_of(d: u32) -> FoundDepth
     ensures { λ r. ⌜ r ≡ depthOf d ⌝ }
 {
-    if 12 < d {
+    if (u16::MAX as u32) < d {
         return FoundDepth::NoDepth;
     }
     Depth::of(d as u16)

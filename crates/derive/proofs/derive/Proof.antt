@@ -8,6 +8,8 @@ use Rattle.numbers.specs.Depth.{isDepth}
 use Rattle.numbers.specs.declared.answer.Answer.the-variants.{Done}
 use Rattle.numbers.proofs.Agree.{depth-no, depth-yes, depth-back}
 use Rattle.numbers.proofs.Named.{done-is}
+use Rattle.terms.specs.Terms.{entry}
+use Rattle.derive.specs.Derived.{sampled}
 use Rattle.derive.proofs.Answers.{passed, answer-depth, answer-window, answer-samples, derived-refused, derived-samples}
 use Rattle.derive.proofs.derive.Statement.{statement}
 use Rattle.derive.proofs.derive.Tie as tie
@@ -63,18 +65,23 @@ module _ (c : tie.Else1) where
   done : c .before .before .answer-of .result ≡ Done
   done = done-is _ (sym (c .before .is-done .ensures) ∙ not-false (c .before .is-done .result) (c .if1 .left))
 
+named-requires : tie.Need-named-requires
+named-requires c κs = search needs
+
 sampled-requires : tie.Need-sampled-requires
 sampled-requires c κs =
-    let a = s c .args in (
-      passed (a .luma .now) (a .chroma .now) (a .w) (a .direction) (a .d) (a .room) (sym (c .before .before .answer-of .ensures) ∙ done c),
-      depth-back _ _ (sym (k c .before .before .before .depth-of .ensures) ∙ k c .before .depth .given .1),
+    let e = c .before in
+    let a = s e .args in (
+      passed (a .luma .now) (a .chroma .now) (a .w) (a .direction) (a .d) (a .room) (sym (e .before .before .answer-of .ensures) ∙ done e),
+      depth-back _ _ (sym (k e .before .before .before .depth-of .ensures) ∙ k e .before .depth .given .1),
     )
 
 returns-3 : tie.Need-returns-3
 returns-3 c =
-    let e = c .before in
+    let e = c .before .before in
     let a = s e .args in
     c .sampled .ensures
+    ∙ ap (λ x. sampled (entry (a .luma .now)) (entry (a .chroma .now)) (a .w) x (a .d)) (c .before .named .ensures)
     ∙ derived-samples (a .luma .now) (a .chroma .now) (a .w) (a .direction) (a .d) (a .room)
     (answer-samples (a .luma .now) (a .chroma .now) (a .w) (a .direction) (a .d) (a .room) (depth (k e)) (sym (e .before .before .answer-of .ensures) ∙ done e))
 
@@ -91,5 +98,6 @@ derive-spec =
     is-done-requires
     refused-requires-2
     returns-2
+    named-requires
     sampled-requires
     returns-3)

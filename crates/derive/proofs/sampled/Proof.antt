@@ -6,6 +6,7 @@ use Prim.Native.Nat.{ℕ, _*_, _≤_}
 use native.Mathlib.Omega.{arith}
 use Rattle.numbers.specs.Depth.{most}
 use Rattle.numbers.specs.declared.answer.Answer.the-variants.{Done}
+use Rattle.terms.specs.Terms.{entry}
 use Rattle.sums.specs.Sum.{NineMost}
 use Rattle.sums.specs.declared.nine.Nine.{Nine}
 use Rattle.sums.proofs.Ranges.{bits-least}
@@ -35,7 +36,7 @@ returns c =
     let a = t .before .before .args in
     c .accepted .ensures
     ∙ (λ j. record { answer = Done; params = f .flat .ensures j })
-    ∙ sampled-none (a .luma .now) (a .chroma .now) (a .w) (a .direction) (a .d) (sym (t .before .count-of .ensures) ∙ t .if1 .taken)
+    ∙ sampled-none (entry (a .luma .now)) (entry (a .chroma .now)) (a .w) (a .direction) (a .d) (sym (t .before .count-of .ensures) ∙ t .if1 .taken)
 
 of-requires : tie.Need-of-requires
 of-requires c κs = search needs
@@ -57,8 +58,8 @@ returns-2 c =
     let g = c .before .before .before in
     let a = s g .args in
     c .refused .ensures
-    ∙ sampled-bad (a .luma .now) (a .chroma .now) (a .w) (a .direction) (a .d)
-    (gathered-none (a .d) (a .direction) (a .luma .now) (a .chroma .now) (a .w) (sym (gathered-is g) ∙ c .before .enum-told .given .1))
+    ∙ sampled-bad (entry (a .luma .now)) (entry (a .chroma .now)) (a .w) (a .direction) (a .d)
+    (gathered-none (a .d) (a .direction) (entry (a .luma .now)) (entry (a .chroma .now)) (a .w) (sym (gathered-is g) ∙ c .before .enum-told .given .1))
 
 is-small-requires : tie.Need-is-small-requires
 is-small-requires c κs = search needs
@@ -71,7 +72,7 @@ returns-3 c =
     let i = c .before .before in
     let a = u i .args in
     c .refused2 .ensures
-    ∙ sampled-large (a .luma .now) (a .chroma .now) (a .w) (a .direction) (a .d) (both i .0) (sym (small-is i) ∙ not-true (i .is-small .result) (c .before .if2 .taken))
+    ∙ sampled-large (entry (a .luma .now)) (entry (a .chroma .now)) (a .w) (a .direction) (a .d) (both i .0) (sym (small-is i) ∙ not-true (i .is-small .result) (c .before .if2 .taken))
 
 params-of-requires : tie.Need-params-of-requires
 params-of-requires c κs =
@@ -83,7 +84,7 @@ params-of-requires c κs =
       omega (arith, g i .before .before .if1 .left),
       omega (arith, k .count-of .ensures, count-most (a .w) (u i .pre .0 .wide) (u i .pre .0 .high)),
       subst (λ (t : ℕ × Nine). NineMost (t .0 * (most (a .d) * most (a .d))) (t .1)) (sym (λ j. (k .count-of .ensures j, both i .1 j)))
-          (sums-most (a .d) (a .direction) (a .luma .now) (a .chroma .now) (a .w) least (both i .0)),
+          (sums-most (a .d) (a .direction) (entry (a .luma .now)) (entry (a .chroma .now)) (a .w) least (both i .0)),
     )
 
 accepted-requires-2 : tie.Need-accepted-requires-2
@@ -95,7 +96,7 @@ returns-4 c =
     let i = p .before .before in
     let a = u i .args in
     c .accepted2 .ensures
-    ∙ sampled-done (a .luma .now) (a .chroma .now) (a .w) (a .direction) (a .d) (p .params-of .result) (both i .0)
+    ∙ sampled-done (entry (a .luma .now)) (entry (a .chroma .now)) (a .w) (a .direction) (a .d) (p .params-of .result) (both i .0)
     (sym (small-is i) ∙ not-false (i .is-small .result) (p .before .if2 .left))
     (p .params-of .ensures ∙ (λ j. paramsOf (a .d) (n (g i) .count-of .ensures j) (both i .1 j)))
 

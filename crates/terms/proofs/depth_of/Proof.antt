@@ -1,9 +1,12 @@
--- `depth_of` meets its contract: a number above 12 is no depth, and the others are words. Assumes nothing.
+-- `depth_of` meets its contract: a number that is no word is no depth. Assumes nothing.
 use borrow.Author.Needs.{needs}
 use borrow.Author.Tests.{ne-eqb}
 use native.Mathlib.Omega.{arith}
 use Rattle.terms.proofs.depth_of.Statement.{statement}
 use Rattle.terms.proofs.depth_of.Tie as tie
+
+cast-if1 : tie.Need-cast-if1
+cast-if1 c = search needs
 
 returns : tie.Need-returns
 returns c =
@@ -20,4 +23,4 @@ returns-2 : tie.Need-returns-2
 returns-2 c = search needs
 
 pub depth-of-spec : {M : Type 1} → statement M
-depth-of-spec = tie.close (tie.spec returns cast-of of-requires returns-2)
+depth-of-spec = tie.close (tie.spec cast-if1 returns cast-of of-requires returns-2)

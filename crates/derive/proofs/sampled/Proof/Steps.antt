@@ -2,6 +2,7 @@
 use mathlib.Core.Path.{_≡_, sym, _∙_, ap}
 use mathlib.Core.Bool.{true}
 use Rattle.numbers.specs.Depth.{most}
+use Rattle.terms.specs.Terms.{entry}
 use Rattle.sums.specs.Sum.{sumsOf, isReadable, gathered}
 use Rattle.sums.proofs.Whole.{gathered-sums}
 use Rattle.derive.specs.Rules.{isSmall}
@@ -15,8 +16,8 @@ module _ (c : tie.After-gather) where
   abbrev pub s : tie.Start
   s = n .before
 
-  pub gathered-is : c .gather .result ≡ gathered (s .args .d) (s .args .direction) (s .args .luma .now) (s .args .chroma .now) (s .args .w)
-  gathered-is = c .gather .ensures ∙ ap (λ d. gathered d (s .args .direction) (s .args .luma .now) (s .args .chroma .now) (s .args .w)) (c .before .of .ensures .0)
+  pub gathered-is : c .gather .result ≡ gathered (s .args .d) (s .args .direction) (entry (s .args .luma .now)) (entry (s .args .chroma .now)) (s .args .w)
+  gathered-is = c .gather .ensures ∙ ap (λ d. gathered d (s .args .direction) (entry (s .args .luma .now)) (entry (s .args .chroma .now)) (s .args .w)) (c .before .of .ensures .0)
 
 -- the sums
 module _ (c : tie.After-is-small) where
@@ -26,10 +27,10 @@ module _ (c : tie.After-is-small) where
   abbrev pub u : tie.Start
   u = s g
 
-  pub both : (isReadable (most (u .args .d)) (u .args .direction) (u .args .luma .now) (u .args .chroma .now) (u .args .w) ≡ true)
-      × (c .before .before .g .given .0 .0 ≡ sumsOf (u .args .d) (u .args .direction) (u .args .luma .now) (u .args .chroma .now) (u .args .w))
-  both = gathered-sums (u .args .d) (u .args .direction) (u .args .luma .now) (u .args .chroma .now) (u .args .w) (c .before .before .g .given .0 .0)
+  pub both : (isReadable (most (u .args .d)) (u .args .direction) (entry (u .args .luma .now)) (entry (u .args .chroma .now)) (u .args .w) ≡ true)
+      × (c .before .before .g .given .0 .0 ≡ sumsOf (u .args .d) (u .args .direction) (entry (u .args .luma .now)) (entry (u .args .chroma .now)) (u .args .w))
+  both = gathered-sums (u .args .d) (u .args .direction) (entry (u .args .luma .now)) (entry (u .args .chroma .now)) (u .args .w) (c .before .before .g .given .0 .0)
       (sym (gathered-is g) ∙ c .before .before .g .given .1)
 
-  pub small-is : c .is-small .result ≡ isSmall (sumsOf (u .args .d) (u .args .direction) (u .args .luma .now) (u .args .chroma .now) (u .args .w))
+  pub small-is : c .is-small .result ≡ isSmall (sumsOf (u .args .d) (u .args .direction) (entry (u .args .luma .now)) (entry (u .args .chroma .now)) (u .args .w))
   small-is = c .is-small .ensures ∙ ap isSmall (both .1)

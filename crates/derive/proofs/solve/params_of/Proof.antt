@@ -8,12 +8,12 @@ use native.Mathlib.Nat.{mul-le-mul, le-trans}
 use lib.IntN.{pos}
 use mir.Syntax.{w32}
 use Rattle.zint.proofs.Bound.{back}
-use Rattle.elimination.specs.Elimination.{regular, solved}
+use Rattle.elimination.specs.Elimination.{regular, solved, SumsIn}
 use Rattle.sums.specs.Sum.{NineMost}
-use Rattle.sums.proofs.Steps.{wider}
+use Rattle.sums.proofs.Grown.{wider}
 use Rattle.sums.proofs.Ranges.{most-small, bits-most}
 use Rattle.derive.specs.Shift.{reach, shiftedSums, paramsOf}
-use Rattle.derive.proofs.Reach.{sums-reach}
+use Rattle.derive.proofs.Reach.{sums-reach, shifted-sums-most}
 use Rattle.derive.proofs.solve.params_of.Statement.{statement}
 use Rattle.derive.proofs.solve.params_of.Tie as tie
 
@@ -36,12 +36,18 @@ ceil-log2-requires c κs = search needs
 add-e : tie.Need-add-e
 add-e c = omega (arith, small (c .before), c .ceil-log2 .ensures .1)
 
+module _ (c : tie.After-ceil-log2) where
+  reached : NineMost (2 ^ (2 * c .before .args .d + c .ceil-log2 .result)) (c .before .args .s)
+  reached =
+      let s = c .before in
+      subst (λ (e : ℕ). NineMost (2 ^ e) (s .args .s)) (sym (reach-is c)) (sums-reach (s .args .d) (s .args .n) (s .args .s) (omega (arith, s .pre .2)) (s .pre .3))
+
 shift-all-requires : tie.Need-shift-all-requires
 shift-all-requires c κs =
     let s = c .before in
     let m = most-small (s .args .d) (small s) in (
       wider (le-trans (mul-le-mul (s .pre .2) (mul-le-mul m m)) (omega arith)) (s .pre .3),
-      subst (λ (e : ℕ). NineMost (2 ^ e) (s .args .s)) (sym (reach-is c)) (sums-reach (s .args .d) (s .args .n) (s .args .s) (omega (arith, s .pre .2)) (s .pre .3)),
+      reached c,
       omega (arith, small s, c .ceil-log2 .ensures .1),
     )
 
@@ -51,7 +57,10 @@ regulariser-requires c κs = search needs
 gauss-elimination-requires : tie.Need-gauss-elimination-requires
 gauss-elimination-requires c κs =
     let r = c .regulariser in
-    (c .before .shift-all .ensures .1, rw (back w32 {z = r .result} (sfits-of (r .ok))) (r .ensures .1))
+    let a = c .before in (
+      subst (SumsIn (2 ^ 22)) (sym (a .shift-all .ensures)) (shifted-sums-most _ _ (reached (a .before))),
+      rw (back w32 {z = r .result} (sfits-of (r .ok))) (r .ensures .1),
+    )
 
 returns : tie.Need-returns
 unfolding paramsOf
@@ -61,7 +70,7 @@ returns c =
     let k = a .before in
     let s = k .before in
     let reg = back w32 {z = r .regulariser .result} (sfits-of (r .regulariser .ok)) ∙ r .regulariser .ensures .0 ∙ ap (λ (d : ℕ). pos (regular d)) (s .pre .0) in
-    let sums = a .shift-all .ensures .0 ∙ ap (λ (e : ℕ). shiftedSums e (s .args .s)) (reach-is k) in
+    let sums = a .shift-all .ensures ∙ ap (λ (e : ℕ). shiftedSums e (s .args .s)) (reach-is k) in
     simp (ne-eqb (s .args .n) 0 (λ z. absurd (omega (arith, s .pre .1)))) (c .gauss-elimination .ensures .0 ∙ (λ j. solved (sums j) (reg j)))
 
 pub params-of-spec : {M : Type 1} → statement M

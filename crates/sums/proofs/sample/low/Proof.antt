@@ -2,7 +2,7 @@
 use native.Mathlib.Omega.{arith}
 use mir.Syntax.{w32}
 use mir.Val.{ofZ}
-use Rattle.zint.proofs.Naturals.{low-back, low-most, low-is}
+use Rattle.zint.proofs.Naturals.{low-back, low-most}
 use Rattle.sums.proofs.sample.low.Statement.{statement}
 use Rattle.sums.proofs.sample.low.Tie as tie
 
@@ -10,7 +10,7 @@ cast-result : tie.Need-cast-result
 cast-result c = rw (low-back (c .args .z)) (tt, record { fits = omega (arith, low-most (ofZ w32 (c .args .z))) })
 
 returns : tie.Need-returns
-returns c = rw (low-back (c .args .z)) (low-most (ofZ w32 (c .args .z)), λ h. low-is (c .args .z) h)
+returns c = rw (low-back (c .args .z))
 
 pub low-spec : {M : Type 1} → statement M
 low-spec = tie.close (tie.spec cast-result returns)

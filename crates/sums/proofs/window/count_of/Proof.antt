@@ -11,22 +11,22 @@ use Rattle.sums.proofs.window.count_of.Tie as tie
 rows-above-requires : tie.Need-rows-above-requires
 rows-above-requires c κs = search needs
 
-less-requires : tie.Need-less-requires
-less-requires c κs = search needs
+monus-requires : tie.Need-monus-requires
+monus-requires c κs = search needs
 
 -- the two products
-above-is : (c : tie.After-less) → c .before .rows-above .result * c .less .result ≡ rowsAbove (c .before .before .args .w) * wide (c .before .before .args .w)
-above-is c = λ j. c .before .rows-above .ensures j * c .less .ensures j
+above-is : (c : tie.After-monus) → c .before .rows-above .result * c .monus .result ≡ rowsAbove (c .before .before .args .w) * wide (c .before .before .args .w)
+above-is c = λ j. c .before .rows-above .ensures j * c .monus .ensures j
 
 below-is : (c : tie.After-few) → let w = c .before .before .before .before .args .w in
-    (c .before .less2 .result - c .before .before .before .rows-above .result) * c .few .result ≡ (high w - rowsAbove w) * few w
-below-is c = λ j. (c .before .less2 .ensures j - c .before .before .before .rows-above .ensures j) * c .few .ensures j
+    (c .before .monus2 .result - c .before .before .before .rows-above .result) * c .few .result ≡ (high w - rowsAbove w) * few w
+below-is c = λ j. (c .before .monus2 .ensures j - c .before .before .before .rows-above .ensures j) * c .few .ensures j
 
 mul-result : tie.Need-mul-result
 mul-result c = let s = c .before .before in omega (arith, above-is c, few-rows (s .args .w) (s .pre .0) (s .pre .1) .0)
 
-less-requires-2 : tie.Need-less-requires-2
-less-requires-2 c κs = search needs
+monus-requires-2 : tie.Need-monus-requires-2
+monus-requires-2 c κs = search needs
 
 sub-result : tie.Need-sub-result
 sub-result c = search needs
@@ -50,9 +50,9 @@ count-of-spec =
     tie.close
     (tie.spec
     rows-above-requires
-    less-requires
+    monus-requires
     mul-result
-    less-requires-2
+    monus-requires-2
     sub-result
     few-requires
     mul-result-2

@@ -1,24 +1,29 @@
--- `is_reference` meets its contract. Assumes nothing.
+-- `is_reference` meets its contract: sizes in range are what the test of the list asks for. Assumes nothing.
 use borrow.Author.Needs.{needs}
-use borrow.Author.Tests.{le-leb, lt-leb}
-use Rattle.terms.specs.Reference.{isReference}
+use borrow.Author.Tests.{not-true, not-false}
+use mathlib.Core.Path.{_≡_, sym, _∙_}
+use mathlib.Core.Bool.{true}
+use Rattle.terms.specs.Reference.{isSizes, isReference}
+use Rattle.terms.proofs.Granted.{sizes-all}
 use Rattle.terms.proofs.reference.is_reference.Statement.{statement}
 use Rattle.terms.proofs.reference.is_reference.Tie as tie
 
+is-sizes-requires : tie.Need-is-sizes-requires
+is-sizes-requires c κs = search needs
+
 returns : tie.Need-returns
 unfolding isReference
-returns c = simp (lt-leb _ _ (c .if1 .taken))
+returns c = let h = c .before .is-sizes in simp (sym (h .ensures) ∙ not-true (h .result) (c .if1 .taken))
+
+sizes : (c : tie.Else1) → isSizes (c .before .before .args .ref-width) (c .before .before .args .ref-height) ≡ true
+sizes c = let h = c .before .is-sizes in sym (h .ensures) ∙ not-false (h .result) (c .if1 .left)
+
+is-held-requires : tie.Need-is-held-requires
+is-held-requires c κs = sizes-all _ _ (sizes c) .1
 
 returns-2 : tie.Need-returns-2
 unfolding isReference
-returns-2 c = simp (le-leb _ _ (c .before .if1 .left), lt-leb _ _ (c .if2 .taken))
-
-mul-result : tie.Need-mul-result
-mul-result c = search needs
-
-returns-3 : tie.Need-returns-3
-unfolding isReference
-returns-3 c = simp (le-leb _ _ (c .before .if1 .left), le-leb _ _ (c .if2 .left))
+returns-2 c = simp (sizes (c .before)) (c .is-held .ensures)
 
 pub is-reference-spec : {M : Type 1} → statement M
-is-reference-spec = tie.close (tie.spec returns returns-2 mul-result returns-3)
+is-reference-spec = tie.close (tie.spec is-sizes-requires returns is-held-requires returns-2)

@@ -15,14 +15,14 @@ use Rattle.sums.proofs.seen.Seen.is_in_range.Statement.{statement}
 use Rattle.sums.proofs.seen.Seen.is_in_range.Tie as tie
 
 module _ (s : tie.Start) where
-  small : most (s .args .scale .d) ≤ 4095
+  small : most (s .args .depth .d) ≤ 4095
   small = most-small _ (s .pre .largest)
 
-  most-back : toZ w32 (ofZ w32 (s .args .scale .most)) ≡ pos (most (s .args .scale .d))
-  most-back = ap (λ z. toZ w32 (ofZ w32 z)) (s .pre .most-is) ∙ back-pos w32 (most (s .args .scale .d)) (omega (arith, small))
+  most-back : toZ w32 (ofZ w32 (s .args .depth .most)) ≡ pos (most (s .args .depth .d))
+  most-back = ap (λ z. toZ w32 (ofZ w32 z)) (s .pre .most-is) ∙ back-pos w32 (most (s .args .depth .d)) (omega (arith, small))
 
-  top-back : toZ w32 (ofZ w32 (s .args .scale .top)) ≡ pos (8 * most (s .args .scale .d) + 7)
-  top-back = ap (λ z. toZ w32 (ofZ w32 z)) (s .pre .top-is) ∙ back-pos w32 (8 * most (s .args .scale .d) + 7) (omega (arith, small))
+  top-back : toZ w32 (ofZ w32 (s .args .depth .top)) ≡ pos (8 * most (s .args .depth .d) + 7)
+  top-back = ap (λ z. toZ w32 (ofZ w32 z)) (s .pre .top-is) ∙ back-pos w32 (8 * most (s .args .depth .d) + 7) (omega (arith, small))
 
 in-range-requires : tie.Need-in-range-requires
 in-range-requires c κs = search needs

@@ -26,16 +26,19 @@ regroup false v c h k = refl
 
 returns : tie.Need-returns
 unfolding inRange
-returns c D small =
-    let s = c .before .before .before .before in
-    let a = s .args in
-    let f = s .fits in
-    let In : ℤ → Bool = inside (pos (8 * most D + 7)) in
-    let l = sfits-of {w = w32} {z = a .self .luma} (c .before .before .struct-told .given .0 .1) in
-    let h = sfits-of {w = w32} {z = a .self .chroma} (c .struct-told2 .given .1 .0 .1) in
-    let in-luma = rw (sym (top-is D)) at (three-joined (suc (suc (suc D))) (omega arith) (a .self .luma) (a .v) (a .c) l (f .v) (f .c)) in
-    (λ j. in-luma j && two-joined D (omega arith) (a .self .chroma) (a .k) h (f .k) j)
-    ∙ regroup (In (a .self .luma)) (In (a .v)) (In (a .c)) (inside (pos (most D)) (a .self .chroma)) (inside (pos (most D)) (a .k))
+returns c = (
+  refl,
+  λ D small.
+      let s = c .before .before .before .before in
+      let a = s .args in
+      let f = s .fits in
+      let In : ℤ → Bool = inside (pos (8 * most D + 7)) in
+      let l = sfits-of {w = w32} {z = a .self .luma} (c .before .before .struct-told .given .0 .1) in
+      let h = sfits-of {w = w32} {z = a .self .chroma} (c .struct-told2 .given .1 .0 .1) in
+      let in-luma = rw (sym (top-is D)) at (three-joined (suc (suc (suc D))) (omega arith) (a .self .luma) (a .v) (a .c) l (f .v) (f .c)) in
+      (λ j. in-luma j && two-joined D (omega arith) (a .self .chroma) (a .k) h (f .k) j)
+      ∙ regroup (In (a .self .luma)) (In (a .v)) (In (a .c)) (inside (pos (most D)) (a .self .chroma)) (inside (pos (most D)) (a .k)),
+)
 
 pub with-spec : {M : Type 1} → statement M
 with-spec = tie.close (tie.spec returns)
