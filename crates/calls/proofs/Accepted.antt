@@ -15,7 +15,7 @@ use Rattle.numbers.specs.declared.answer.Answer.the-variants.{Done}
 use Rattle.zint.specs.Range.{inside, allInside, Edge}
 use Rattle.zint.proofs.Range.{and-both, all-inside-at}
 use Rattle.ladder.proofs.Ladder.{all-kept}
-use Rattle.calls.specs.Direct.{isLong, isRead, directRules, directAnswer}
+use Rattle.calls.specs.Direct.{listsLong, entriesInRange, directRules, directAnswer}
 
 pub size-most : (B : ℕ) → isSize B ≡ true → B ≤ 64
 size-most B e = size-all (λ x. x ≤ 64) B (omega arith) e
@@ -23,8 +23,8 @@ size-most B e = size-all (λ x. x ≤ 64) B (omega arith) e
 pub depth-most : (D : ℕ) → isDepth D ≡ true → most D ≤ 4095
 depth-most D e = depth-all (λ x. most x ≤ 4095) D (omega arith) e
 
-pub long-all : (B a l n : ℕ) → isLong B a l n ≡ true → (2 * B ≤ a) × (2 * B ≤ l) × (B * B ≤ n)
-unfolding isLong
+pub long-all : (B a l n : ℕ) → listsLong B a l n ≡ true → (2 * B ≤ a) × (2 * B ≤ l) × (B * B ≤ n)
+unfolding listsLong
 long-all B a l n e =
     let p = and-both (leb (2 * B) a && leb (2 * B) l) (leb (B * B) n) e in
     let q = and-both (leb (2 * B) a) (leb (2 * B) l) (p .0) in
@@ -43,7 +43,7 @@ pub record Accepted (B D : ℕ) (named : Bool) (above left : List ℤ) (k : ℤ)
 
 pub accepted : (B D : ℕ) (named : Bool) (above left : List ℤ) (k : ℤ) (n : ℕ) → directAnswer B D named above left k n ≡ Done
     → Accepted B D named above left k n
-unfolding directAnswer isRead
+unfolding directAnswer entriesInRange
 accepted B D named above left k n e =
     let all = all-kept (directRules B D named above left k n) tt e in
     let lo = long-all B (length above) (length left) n (all .1 .1 .1 .0) in

@@ -16,12 +16,12 @@ use Rattle.ladder.specs.Ladder.{Rule, _else_, ladder}
 use Rattle.ladder.specs.Promise.{lent, Promise}
 
 -- "an edge list under 2B entries, an output under B x B"
-unfoldable pub isLong : ℕ → ℕ → ℕ → ℕ → Bool
-isLong B above left out = leb (2 * B) above && leb (2 * B) left && leb (B * B) out
+unfoldable pub listsLong : ℕ → ℕ → ℕ → ℕ → Bool
+listsLong B above left out = leb (2 * B) above && leb (2 * B) left && leb (B * B) out
 
 -- "want 2B entries in both edges and test all of them and the corner"
-unfoldable pub isRead : ℕ → ℤ → List ℤ → List ℤ → ℤ → Bool
-isRead B M above left k = allInside M above (2 * B) && allInside M left (2 * B) && inside M k
+unfoldable pub entriesInRange : ℕ → ℤ → List ℤ → List ℤ → ℤ → Bool
+entriesInRange B M above left k = allInside M above (2 * B) && allInside M left (2 * B) && inside M k
 
 -- the rules of a call whose output has n entries; `named` says that the words of its mode name one, and is true where a call takes no mode
 abbrev pub directRules : ℕ → ℕ → Bool → List ℤ → List ℤ → ℤ → ℕ → List Rule
@@ -29,8 +29,8 @@ directRules B D named above left k n =
     isSize B else BadSize ∷
     isDepth D else BadDepth ∷
     named else BadMode ∷
-    isLong B (length above) (length left) n else ShortList ∷
-    isRead B (pos (most D)) above left k else BadSample ∷ []
+    listsLong B (length above) (length left) n else ShortList ∷
+    entriesInRange B (pos (most D)) above left k else BadSample ∷ []
 
 unfoldable pub directAnswer : ℕ → ℕ → Bool → List ℤ → List ℤ → ℤ → ℕ → Answer
 directAnswer B D named above left k n = ladder (directRules B D named above left k n)

@@ -9,12 +9,12 @@ use numbers::size::Size;
 ghost use mathlib.Core.Path.{_≡_};
 ghost use Prim.Native.Nat.{_≤_, _*_};
 ghost use lib.ListN.{length};
-ghost use Rattle.calls.specs.Direct.{isLong, isRead, directAnswer};
+ghost use Rattle.calls.specs.Direct.{listsLong, entriesInRange, directAnswer};
 
 // Whether edges of a and l entries and an output of n are long enough for a block of bs x bs.
-fn is_long(bs: usize, a: usize, l: usize, n: usize) -> bool
+fn lists_long(bs: usize, a: usize, l: usize, n: usize) -> bool
     requires { ⌜ bs ≤ 64 ⌝ }
-    ensures { λ r. ⌜ r ≡ isLong bs a l n ⌝ }
+    ensures { λ r. ⌜ r ≡ listsLong bs a l n ⌝ }
 {
     if a < 2 * bs {
         return false;
@@ -26,9 +26,9 @@ fn is_long(bs: usize, a: usize, l: usize, n: usize) -> bool
 }
 
 // Whether 2 bs entries of both edges and the corner are in 0..m.
-fn is_read(bs: usize, m: i32, above: &[i32], left: &[i32], corner: i32) -> bool
+fn entries_in_range(bs: usize, m: i32, above: &[i32], left: &[i32], corner: i32) -> bool
     requires { ⌜ (bs ≤ 64) × (2 * bs ≤ length (now above)) × (2 * bs ≤ length (now left)) ⌝ }
-    ensures { λ r. ⌜ r ≡ isRead bs m (now (above .entry)) (now (left .entry)) corner ⌝ }
+    ensures { λ r. ⌜ r ≡ entriesInRange bs m (now (above .entry)) (now (left .entry)) corner ⌝ }
 {
     if !range::both_in_range(above, left, 2 * bs, m) {
         return false;
@@ -58,10 +58,10 @@ pub fn direct(
         return Answer::BadMode;
     }
     let bs = b as usize;
-    if !is_long(bs, above.len(), left.len(), n) {
+    if !lists_long(bs, above.len(), left.len(), n) {
         return Answer::ShortList;
     }
-    if !is_read(bs, depth.max(), above, left, corner) {
+    if !entries_in_range(bs, depth.max(), above, left, corner) {
         return Answer::BadSample;
     }
     Answer::Done

@@ -14,7 +14,7 @@ use Rattle.numbers.specs.declared.colour.ColourDirection.{ColourDirection}
 use Rattle.fixed.specs.Product.{ilog2}
 use Rattle.zint.proofs.Naturals.{either}
 use Rattle.fixed.proofs.Shift.{ilog2-is, ilog2-le}
-use Rattle.fixed.specs.Elimination.{SumsIn}
+use Rattle.elimination.specs.Elimination.{SumsIn}
 use Rattle.terms.specs.Reference.{isSizes}
 use Rattle.terms.proofs.Granted.{sizes-all}
 use Rattle.sums.specs.Sum.{sumsOf, countOf, isReadable, NineMost}

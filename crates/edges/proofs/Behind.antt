@@ -1,26 +1,19 @@
--- What stands behind an entry, by which neighbours are there, and a neighbour's samples as a run. Assumes nothing.
-use mathlib.Core.Path.{_≡_, ap}
-use mathlib.Core.Bool.{true, false}
-use mathlib.Core.List.{List}
-use Prim.Native.Nat.{ℕ, _+_, _-_, _*_}
-use native.Mathlib.Nat.{add-mul}
-use native.Mathlib.Omega.{arith}
+-- What stands behind an entry, by which neighbours are there. Assumes nothing.
+use mathlib.Core.Path.{_≡_, refl}
+use mathlib.Core.Bool.{Bool, true, false}
+use Prim.Native.Nat.{ℕ, _+_, _-_}
 use lib.IntN.{pos, _+ℤ_, _-ℤ_}
-use lib.Ieee.{Float, nan}
-use lib.ListN.{getD}
 use Rattle.line.specs.Along.{along}
-use Rattle.line.specs.Run.{runAt}
 use Rattle.edges.specs.declared.spec.IntraRefSpec.{IntraRefSpec}
 use Rattle.edges.specs.Behind.{place, number, aboveBehind, leftBehind, cornerBehind}
-use Rattle.edges.specs.Rules.{sampleAt}
 
--- from the place at row r and column c, which stands at `start` in the plane's list
-module _ (W : ℕ) (plane : List Float) (start r c : ℕ) (e : start ≡ r * W + c) where
-  pub along-row : (k : ℕ) → runAt plane start 1 k ≡ sampleAt W plane r (c + k)
-  along-row k = ap (λ i. getD plane i nan) (omega arith)
-
-  pub down-column : (k : ℕ) → runAt plane start W k ≡ sampleAt W plane (r + k) c
-  down-column k = ap (λ i. getD plane i nan) (omega (arith, add-mul r k W))
+-- by which neighbours are there
+pub neighbours : {P : Type 0} (above left : Bool) → (above ≡ true → left ≡ true → P) → (above ≡ true → left ≡ false → P)
+    → (above ≡ false → left ≡ true → P) → (above ≡ false → left ≡ false → P) → P
+neighbours true true f g h k = f refl refl
+neighbours true false f g h k = g refl refl
+neighbours false true f g h k = h refl refl
+neighbours false false f g h k = k refl refl
 
 module _ (s : IntraRefSpec) where
   pub above-there : s .«have_above» ≡ true → (c : ℕ)

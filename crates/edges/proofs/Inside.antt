@@ -1,17 +1,16 @@
 -- The edges that a call builds lie in 0..M: the 2B entries of both and the corner, with B and D open. A sample's reading does, and so do base - 1,
 -- base and base + 1 where base is in 1..M-1. Assumes nothing.
-use mathlib.Core.Path.{_≡_, refl, _∙_, ap}
-use mathlib.Core.Bool.{Bool, true, false, cond}
+use mathlib.Core.Path.{_≡_, _∙_, ap}
+use mathlib.Core.Bool.{true, false, cond}
 use mathlib.Core.List.{List}
 use Prim.Native.Nat.{ℕ, _+_, _-_, _*_, _≤_, _<_}
 use native.Mathlib.Omega.{arith}
 use lib.Dec.{leb}
 use lib.IntN.{ℤ, pos, _-ℤ_}
-use lib.Ieee.{Float}
-use lib.ListN.{getD}
+use lib.Ieee.{Float, nan}
+use lib.ListN.{length, getD}
 use borrow.Author.Tests.{leb-true, lt-ltb}
 use Rattle.numbers.specs.Depth.{isDepth, most}
-use Rattle.numbers.specs.declared.answer.Answer.the-variants.{Done}
 use Rattle.zint.specs.Range.{inside, Edge}
 use Rattle.zint.proofs.Parts.{same, sub}
 use Rattle.zint.proofs.Range.{and-both, pos-inside}
@@ -20,31 +19,22 @@ use Rattle.line.specs.Edge.{entryOf, edgeOf}
 use Rattle.samples.proofs.Reading.{reading-most}
 use Rattle.edges.specs.declared.spec.IntraRefSpec.{IntraRefSpec}
 use Rattle.edges.specs.Behind.{Behind, place, number, aboveBehind, leftBehind, cornerBehind}
-use Rattle.edges.specs.Rules.{sampleAt, isRead, isBase}
-use Rattle.edges.specs.Refs.{valueOf, Lists, answerFor, refsOf}
-use Rattle.edges.proofs.Placed.{size-in}
-use Rattle.edges.proofs.Behind.{above-there, above-by-left, above-by-base, left-there, left-by-above, left-by-base}
+use Rattle.edges.specs.Rules.{behindInRange, isBase, allRead}
+use Rattle.edges.specs.Refs.{valueOf, Lists, refsOf}
+use Rattle.edges.specs.Placed.{Placed}
+use Rattle.edges.proofs.Behind.{neighbours, above-there, above-by-left, above-by-base, left-there, left-by-above, left-by-base}
 use Rattle.edges.proofs.Behind.{corner-by-both, corner-by-above, corner-by-left, corner-by-base}
 use Rattle.edges.proofs.Tested.{above-read, left-read, corner-read}
-use Rattle.edges.proofs.Accepted.{accepted}
 
 -- what stands behind an entry is in 0..M, if it is a number
 abbrev NumberIn : ℕ → Behind → Type 0
 NumberIn M (place r c) = Unit
 NumberIn M (number z) = inside (pos M) z ≡ true
 
-value-in : (D W : ℕ) (plane : List Float) → isDepth D ≡ true → (b : Behind) → isRead (most D) W plane b ≡ true → NumberIn (most D) b
+value-in : (D W : ℕ) (plane : List Float) → isDepth D ≡ true → (b : Behind) → behindInRange (most D) W plane b ≡ true → NumberIn (most D) b
     → inside (pos (most D)) (valueOf W plane b) ≡ true
-value-in D W plane d (place r c) e h = pos-inside (most D) _ (reading-most D (sampleAt W plane r c) d e)
+value-in D W plane d (place r c) e h = pos-inside (most D) _ (reading-most D (getD plane (r * W + c) nan) d e)
 value-in D W plane d (number z) e h = h
-
--- by which neighbours are there
-neighbours : {P : Type 0} (above left : Bool) → (above ≡ true → left ≡ true → P) → (above ≡ true → left ≡ false → P)
-    → (above ≡ false → left ≡ true → P) → (above ≡ false → left ≡ false → P) → P
-neighbours true true f g h k = f refl refl
-neighbours true false f g h k = g refl refl
-neighbours false true f g h k = h refl refl
-neighbours false false f g h k = k refl refl
 
 one-less : (M b : ℕ) → 1 ≤ b → b ≤ M - 1 → inside (pos M) (pos b -ℤ pos 1) ≡ true
 one-less M b h k =
@@ -87,25 +77,25 @@ entry-at : (B : ℕ) (value : ℕ → ℤ) (before : List ℤ) (i : ℕ) → B �
 entry-at B value before i small h =
     filled-at 128 (entryOf B value) before i (pos 0) (omega arith) ∙ ap (λ t. cond t (value i) (pos 0)) (lt-ltb i (2 * B) h)
 
+-- the 2B entries of both edges and the corner
 pub record InRange (D B : ℕ) (built : Lists) : Type 0 where
   pub above : Edge (most D) (2 * B) (built .above)
   pub left : Edge (most D) (2 * B) (built .left)
   pub corner : inside (pos (most D)) (getD (built .corner) 0 (pos 0)) ≡ true
 
-pub built-in-range : (plane : List Float) (W H : ℕ) (s : IntraRefSpec) (before : Lists) → answerFor plane W H s before ≡ Done
+pub built-in-range : {W : ℕ} {s : IntraRefSpec} (plane : List Float) (before : Lists) → Placed (length plane) W s → allRead plane W s ≡ true
     → InRange (s .d) (s .b) (refsOf plane W s before)
-built-in-range plane W H s before e =
-    let g = accepted plane W H s _ _ _ e in
-    let small = size-in (s .b) (g .place .is-size) .1 in
-    let in-range = value-in (s .d) W plane (g .place .is-depth) in
+built-in-range {W} {s} plane before p e =
+    let small = p .stands .side .1 in
+    let in-range = value-in (s .d) W plane (p .stands .is-depth) in
     record {
       above = λ i h.
           ap (inside (pos (most (s .d)))) (entry-at (s .b) _ (before .above) i small h)
-          ∙ in-range (aboveBehind s i) (above-read plane W s (g .read) i h) (above-number s (g .base) i);
+          ∙ in-range (aboveBehind s i) (above-read plane W s e i h) (above-number s (p .stands .is-base) i);
       left = λ i h.
           ap (inside (pos (most (s .d)))) (entry-at (s .b) _ (before .left) i small h)
-          ∙ in-range (leftBehind s i) (left-read plane W s (g .read) i h) (left-number s (g .base) i);
+          ∙ in-range (leftBehind s i) (left-read plane W s e i h) (left-number s (p .stands .is-base) i);
       corner =
           ap (inside (pos (most (s .d)))) (filled-at 1 (λ i. valueOf W plane (cornerBehind s)) (before .corner) 0 (pos 0) (omega arith))
-          ∙ in-range (cornerBehind s) (corner-read plane W s (g .read)) (corner-number s (g .base));
+          ∙ in-range (cornerBehind s) (corner-read plane W s e) (corner-number s (p .stands .is-base));
     }

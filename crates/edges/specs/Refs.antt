@@ -1,22 +1,21 @@
 -- What the edges and the corner hold, and what `build_refs` promises.
 use mathlib.Core.List.{List}
 use Prim.Native.Nat.{ℕ}
-use lib.IntN.{ℤ, pos}
+use lib.IntN.{ℤ}
 use lib.Ieee.{Float}
 use lib.ListN.{length}
 use Rattle.numbers.specs.declared.answer.Answer.{Answer}
 use Rattle.lists.specs.Fill.{filled}
 use Rattle.ladder.specs.Promise.{lent, Promise}
 use Rattle.line.specs.Edge.{edgeOf}
-use Rattle.samples.specs.Sample.{reading}
 use Rattle.edges.specs.declared.spec.IntraRefSpec.{IntraRefSpec}
-use Rattle.edges.specs.Behind.{Behind, place, number, aboveBehind, leftBehind, cornerBehind}
-use Rattle.edges.specs.Rules.{sampleAt, refsAnswer}
+use Rattle.edges.specs.Behind.{Behind, aboveBehind, leftBehind, cornerBehind}
+use Rattle.edges.specs.Side.{spotOf, spotValue}
+use Rattle.edges.specs.Rules.{refsAnswer}
 
 -- the number that an entry is: its sample as it reads, or the number itself
 abbrev pub valueOf : ℕ → List Float → Behind → ℤ
-valueOf W plane (place r c) = pos (reading (sampleAt W plane r c))
-valueOf W plane (number z) = z
+valueOf W plane b = spotValue plane (spotOf W b)
 
 abbrev pub aboveOf : List Float → ℕ → IntraRefSpec → List ℤ → List ℤ
 aboveOf plane W s before = edgeOf (s .b) (λ c. valueOf W plane (aboveBehind s c)) before

@@ -1,9 +1,10 @@
 // From samples to edges (document 01, section of that name): `build_refs` takes any input, tests 20, 1, 2, 4, 5, 6, 9, 8 in that order, and writes
 // both edges and the corner.
+pub mod answer;
 pub mod fill;
-pub mod place;
 pub mod reads;
 pub mod rules;
+mod side;
 pub mod spec;
 
 use crate::spec::IntraRefSpec;
@@ -28,12 +29,10 @@ pub fn build_refs(
         left: left.len(),
         corner: corner.len(),
     };
-    let answer = rules::refused(plane, width, height, s, n);
+    let answer = answer::refused(plane, width, height, s, n);
     if !answer.is_done() {
         return answer;
     }
-    fill::fill_above(plane, width, s, above);
-    fill::fill_left(plane, width, s, left);
-    corner[0] = fill::corner_of(plane, width, s);
+    corner[0] = fill::fill_edges(plane, width, s, above, left);
     answer
 }

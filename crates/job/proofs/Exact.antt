@@ -7,12 +7,13 @@ use native.Mathlib.Omega.{arith}
 use Rattle.zint.proofs.Range.{and-both}
 use Rattle.line.proofs.Every.{and-of}
 use Rattle.edges.specs.declared.spec.IntraRefSpec.{IntraRefSpec}
+use Rattle.edges.specs.Placed.{Standing}
 use Rattle.reorder.specs.Rect.{InAny, AllWide}
 use Rattle.job.specs.Row.{Row, specOf}
 use Rattle.job.specs.Rules.{stands}
 use Rattle.job.specs.Touches.{Reads, Writes}
 use Rattle.job.specs.Rects.{runsOf, readsOf, writesOf}
-use Rattle.job.proofs.Stands.{Standing, standing}
+use Rattle.job.proofs.Stands.{standing}
 use Rattle.job.proofs.Places.{rect-if, wide-if}
 use Rattle.job.proofs.Runs.{run-of-read, read-of-run}
 

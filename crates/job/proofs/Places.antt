@@ -1,4 +1,4 @@
--- A rectangle that may be empty, the sample behind an entry, and the four cases of neighbours. Assumes nothing.
+-- A rectangle that may be empty, and the sample behind an entry. Assumes nothing.
 use mathlib.Core.Path.{_≡_, refl}
 use mathlib.Core.Logic.{_↔_}
 use mathlib.Core.Bool.{Bool, true, false, false≢true}
@@ -32,11 +32,3 @@ module _ (W p : ℕ) (b : Behind) where
 
   pub at-none : (z : ℤ) → b ≡ number z → ¬ (IsAt W p b)
   at-none z e q = rw e at q
-
--- by which neighbours are there
-pub neighbours : {P : Type 0} (above left : Bool) → (above ≡ true → left ≡ true → P) → (above ≡ true → left ≡ false → P)
-    → (above ≡ false → left ≡ true → P) → (above ≡ false → left ≡ false → P) → P
-neighbours true true f g h k = f refl refl
-neighbours true false f g h k = g refl refl
-neighbours false true f g h k = h refl refl
-neighbours false false f g h k = k refl refl

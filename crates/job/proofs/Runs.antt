@@ -10,13 +10,13 @@ use Rattle.line.proofs.Along.{along-here, along-far, along-in}
 use Rattle.line.proofs.Every.{and-of}
 use Rattle.edges.specs.Behind.{place}
 use Rattle.edges.specs.declared.spec.IntraRefSpec.{IntraRefSpec}
-use Rattle.edges.proofs.Behind.{above-there, above-by-left, above-by-base, left-there, left-by-above, left-by-base}
+use Rattle.edges.proofs.Behind.{neighbours, above-there, above-by-left, above-by-base, left-there, left-by-above, left-by-base}
 use Rattle.edges.proofs.Behind.{corner-by-both, corner-by-above, corner-by-left, corner-by-base}
+use Rattle.edges.specs.Placed.{Standing}
 use Rattle.reorder.specs.Rect.{InAny}
 use Rattle.job.specs.Touches.{Read, by-above, by-left, by-corner}
 use Rattle.job.specs.Rects.{runsOf}
-use Rattle.job.proofs.Stands.{Standing}
-use Rattle.job.proofs.Places.{rect-if, is-at, at-is, at-none, neighbours}
+use Rattle.job.proofs.Places.{rect-if, is-at, at-is, at-none}
 
 module _ (W H : ℕ) (s : IntraRefSpec) (g : Standing W H s) (p : ℕ) where
   -- ways into the five runs

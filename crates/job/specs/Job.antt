@@ -5,6 +5,7 @@ use Rattle.numbers.specs.Flag.{flagsOf}
 use Rattle.numbers.specs.declared.mode.Mode.{Mode}
 use Rattle.numbers.specs.declared.mode.Mode.the-variants.{Paeth}
 use Rattle.numbers.specs.declared.word.Word.the-variants.{FlagWord, MaxWidth, MaxHeight}
+use Rattle.edges.specs.declared.spec.IntraRefSpec.{IntraRefSpec}
 use Rattle.job.specs.Row.{Row, word, specOf, startOf}
 use Rattle.job.specs.Mode.{rowMode}
 use Rattle.job.specs.Rules.{stands, rowAnswer}
@@ -19,15 +20,19 @@ abbrev pub modeIn : FoundMode → Mode
 modeIn (found.Is mode) = mode
 modeIn found.NoMode = Paeth
 
-abbrev pub jobOf : Row → Job
-jobOf row = record {
-  spec = specOf row;
-  mode = modeIn (rowMode row);
+-- a job of this spec and mode, with the row's other words
+abbrev pub jobWith : IntraRefSpec → Mode → Row → Job
+jobWith s mode row = record {
+  spec = s;
+  mode = mode;
   flags = flagsOf (word row FlagWord);
   «max_width» = word row MaxWidth;
   «max_height» = word row MaxHeight;
   start = startOf row;
 }
+
+abbrev pub jobOf : Row → Job
+jobOf row = jobWith (specOf row) (modeIn (rowMode row)) row
 
 -- the job, or the number of the first of the rules 1 to 7 that its row breaks
 abbrev pub readRow : ℕ → ℕ → ℕ → Row → FoundJob

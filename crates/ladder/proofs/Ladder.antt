@@ -9,6 +9,7 @@ use borrow.Author.Tests.{ne-eqb}
 use Rattle.numbers.specs.Answer.{answerNumber, isDone}
 use Rattle.numbers.specs.declared.answer.Answer.{Answer}
 use Rattle.numbers.specs.declared.answer.Answer.the-variants.{Done}
+use Rattle.numbers.proofs.Named.{done-is}
 use Rattle.ladder.specs.Ladder.{Rule, _else_, ladder}
 
 -- every rule's answer is a refusal: computes, and is `tt` at a list whose answers are named
@@ -41,6 +42,10 @@ all-kept ((kept else refusal) ∷ rules) t e =
     go false n later h = absurd (no-done refusal n h)
 
 -- ---- rules that are tested after others
+pub kept-append : (rules more : List Rule) → AllKept (rules ++ more) → AllKept rules × AllKept more
+kept-append [] more k = (tt, k)
+kept-append ((kept else refusal) ∷ rules) more k = let later = kept-append rules more (k .1) in ((k .0, later .0), later .1)
+
 not-zero : (n : ℕ) → T (ltb 0 n) → eqb n 0 ≡ false
 not-zero n t = let h = ltb→lt 0 n t in ne-eqb n 0 (λ e. omega arith)
 
@@ -62,3 +67,14 @@ kept a later refusal k e p = p ∙ ap (λ t. cond t later refusal) e
 
 pub broken : (a later refusal : Answer) (k : Bool) → k ≡ false → a ≡ cond k later refusal → refusal ≡ a
 broken a later refusal k e p = sym (p ∙ ap (λ t. cond t later refusal) e)
+
+-- the same of rules that are tested together
+pub all-of : (rules : List Rule) → T (refuses rules) → isDone (ladder rules) ≡ true → AllKept rules
+all-of rules t e = all-kept rules t (done-is (ladder rules) e)
+
+module _ (rules more : List Rule) (t : T (refuses rules)) {a : Answer} where
+  pub segment-kept : isDone (ladder rules) ≡ true → a ≡ ladder (rules ++ more) → a ≡ ladder more
+  segment-kept e p = kept a (ladder more) (ladder rules) (isDone (ladder rules)) e (p ∙ ladder-append rules more t)
+
+  pub segment-broken : isDone (ladder rules) ≡ false → a ≡ ladder (rules ++ more) → ladder rules ≡ a
+  segment-broken e p = broken a (ladder more) (ladder rules) (isDone (ladder rules)) e (p ∙ ladder-append rules more t)

@@ -6,7 +6,7 @@ use lib.Ieee.{Float}
 use lib.ListN.{length}
 use Rattle.numbers.specs.Answer.{answerNumber}
 use Rattle.ladder.specs.Promise.{lent, Promise}
-use Rattle.single.specs.Done.{singleAnswer, singleDone}
+use Rattle.single.specs.Single.{singleAnswer, singleDone}
 use Rattle.plan.specs.Run.{memory, inOrder, planOrder, answerFor}
 
 -- `run_job`

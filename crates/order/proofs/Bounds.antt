@@ -9,12 +9,12 @@ use Rattle.reorder.specs.Rect.{Rect}
 use Rattle.job.specs.Row.{Row, specOf}
 use Rattle.job.specs.Rules.{stands}
 use Rattle.job.proofs.Stands.{standing}
-use Rattle.order.specs.Hull.{onlyIf}
-use Rattle.order.specs.Rects.{Placed}
+use Rattle.clash.specs.Hull.{onlyIf}
+use Rattle.clash.specs.Rects.{Placed}
 use Rattle.order.specs.Sides.{sidesOf}
 use Rattle.order.specs.Window.{Searched}
 use Rattle.order.specs.declared.sides.Sides.{Sides}
-use Rattle.order.proofs.Placed.{placed-of}
+use Rattle.clash.proofs.Placed.{placed-of}
 
 module _ (W H n : ℕ) (part : Row) (on : Bool) (s : IntraRefSpec) (p : on ≡ stands W H n part) (q : s ≡ specOf part) where
   pub placed-if : W ≤ 4096 → H ≤ 4096 → on ≡ true → Placed s

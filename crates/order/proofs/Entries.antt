@@ -6,9 +6,9 @@ use Prim.Native.Nat.{ℕ, _*_}
 use native.Mathlib.Omega.{arith}
 use lib.ListN.{length}
 use Rattle.reorder.specs.Check.{onceB}
-use Rattle.order.specs.Own.{isOwn}
+use Rattle.once.specs.PlanOrder.{isPlanOrder}
 use Rattle.order.specs.Rules.{jobsIn, isOnce, isKept}
-use Rattle.order.proofs.InPlace.{own-once, own-kept}
+use Rattle.once.proofs.InPlace.{own-once, own-kept}
 
 module _ (plan order : List ℕ) (whole : length plan ≡ 16 * length order) where
   pub jobs-in : jobsIn plan ≡ length order
@@ -19,9 +19,9 @@ module _ (plan order : List ℕ) (whole : length plan ≡ 16 * length order) whe
   once-is = rw jobs-in
 
   -- the plan's own order is not refused
-  pub own-is-once : isOwn order ≡ true → isOnce plan order ≡ true
+  pub own-is-once : isPlanOrder order ≡ true → isOnce plan order ≡ true
   own-is-once e = sym once-is ∙ own-once order e
 
-  pub own-is-kept : isOwn order ≡ true → (W H n : ℕ) → isKept W H n plan order ≡ true
+  pub own-is-kept : isPlanOrder order ≡ true → (W H n : ℕ) → isKept W H n plan order ≡ true
   unfolding isKept
   own-is-kept e W H n = rw jobs-in (own-kept order e _)

@@ -24,11 +24,6 @@ pub either : (a b : Bool) → (a || b) ≡ true → (a ≡ true) ⊎ (b ≡ true
 either true b e = inl refl
 either false b e = inr e
 
-pub all-same : {A : Type 0} (a : A) (n v : ℕ) → getD (replicate n a) v a ≡ a
-all-same a zero v = refl
-all-same a (suc n) zero = refl
-all-same a (suc n) (suc v) = all-same a n v
-
 -- ---- what is noted
 
 module _ (lists : List ℤ) (j : ℕ) (s : Sides) where

@@ -18,7 +18,7 @@ use Rattle.order.specs.Rules.{isKept}
 use Rattle.order.specs.Sides.{blockSides, hullSides, overlap, noted}
 use Rattle.order.specs.Window.{Touch, Searched, Walk}
 use Rattle.order.proofs.Lists.{noted-at, noted-other, overlap-of-meet, overlap-none}
-use Rattle.order.proofs.Meets.{clash-turned, clash-meets}
+use Rattle.clash.proofs.Meets.{clash-turned, clash-meets}
 use Rattle.order.proofs.Pairs.{kept-false}
 use Rattle.order.proofs.Walk.{Walked, entry, once, fresh, entry-below}
 

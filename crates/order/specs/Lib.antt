@@ -1,7 +1,4 @@
--- What the test of an order asks and gives.
+-- The test of an order: Rules is to be believed, Sides and Window are what the code goes by.
 pub mod Rules
-pub mod Own
-pub mod Hull
-pub mod Rects
 pub mod Sides
 pub mod Window

@@ -8,7 +8,7 @@ use lib.Signed.{ltZ}
 use lib.ListN.{getD, set}
 use Rattle.reorder.specs.Rect.{Rect}
 use Rattle.job.specs.Row.{Row}
-use Rattle.order.specs.Hull.{blockFor, hullFor}
+use Rattle.clash.specs.Hull.{blockFor, hullFor}
 use Rattle.order.specs.declared.sides.Sides.{Sides}
 
 -- the bounds of a rectangle

@@ -1,15 +1,15 @@
 // A job's block and its hull, the rectangle around all that it reads and writes: two jobs whose blocks and hulls do not meet cannot clash
 // (proofs/Meets). Both are empty if it fails 1 to 7.
-use crate::clash;
-use crate::rect::Rect;
 use crate::sides;
 use crate::sides::Sides;
+use clash::hits;
+use clash::rect::Rect;
 use edges::spec::IntraRefSpec;
 ghost use mathlib.Core.Path.{_≡_};
 ghost use mathlib.Core.Bool.{true};
 ghost use Rattle.job.specs.Touches.{blockAt};
-ghost use Rattle.order.specs.Hull.{one, past, hullOf, onlyIf};
-ghost use Rattle.order.specs.Rects.{rectOf, Near, Placed};
+ghost use Rattle.clash.specs.Hull.{one, past, hullOf, onlyIf};
+ghost use Rattle.clash.specs.Rects.{rectOf, Near, Placed};
 ghost use Rattle.order.specs.Sides.{sidesOf};
 
 // One row or column more if the neighbour is there.
@@ -62,7 +62,7 @@ pub fn block_sides(on: bool, s: IntraRefSpec) -> Sides
     if !on {
         return none();
     }
-    sides::sides_of(clash::square(s))
+    sides::sides_of(hits::square(s))
 }
 
 // The bounds of the hull.

@@ -1,9 +1,9 @@
 // Refusal 23: "the order turns a clashing pair round". A walk over the order: an entry below the largest so far is held against the rows after it that
 // have run. Rows that have not run, and rows that fail 1 to 7, have no bounds in the lists. In the plan's own order nothing is compared.
 use crate::hull;
-use crate::pair;
 use crate::sides;
 use crate::window;
+use clash::pair;
 use job::row;
 ghost use mathlib.Core.Path.{_≡_};
 ghost use Prim.Native.Nat.{_+_, _*_, _≤_};

@@ -1,9 +1,9 @@
 // Lists of bounds, four for 1,024 rows in one list of 4,096: 16-bit numbers that are compared eight at a time.
-use crate::rect::Rect;
+use clash::rect::Rect;
 ghost use mathlib.Core.Path.{_≡_};
 ghost use Prim.Native.Nat.{_+_, _-_, _≤_, _<_};
 ghost use lib.ListN.{length};
-ghost use Rattle.order.specs.Rects.{rectOf};
+ghost use Rattle.clash.specs.Rects.{rectOf};
 ghost use Rattle.order.specs.Sides.{sidesOf, met, anyMet, noted};
 
 // The first column and the one past the last, the first row and the one past the last.

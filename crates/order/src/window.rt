@@ -1,8 +1,8 @@
 // The rows after an entry of the order that have run, in the plan's order: a window of the lists. Blocks and hulls tell most of them apart at once;
 // only where they overlap are the rows compared exactly.
-use crate::pair;
 use crate::sides;
 use crate::sides::Sides;
+use clash::pair;
 ghost use Prim.Native.Nat.{_+_, _*_, _≤_};
 ghost use lib.ListN.{length};
 ghost use Rattle.order.specs.Window.{Rows, Turned, Searched};

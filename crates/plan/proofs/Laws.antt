@@ -22,8 +22,8 @@ use Rattle.reorder.proofs.Own.{plan-accepted}
 use Rattle.reorder.proofs.Swap.{length-swapped, swap-accepted}
 use Rattle.job.specs.Row.{rowAt}
 use Rattle.job.specs.Rects.{clashOf}
-use Rattle.single.specs.Jobs.{jobs}
-use Rattle.single.proofs.Clash.{clash-exact}
+use Rattle.work.specs.Jobs.{jobs}
+use Rattle.work.proofs.Clash.{clash-exact}
 use Rattle.order.specs.Rules.{jobsIn, isOnce, isKept}
 use Rattle.plan.specs.Rules.{isPlan, runRules, runAnswer}
 use Rattle.plan.specs.Run.{Memory, inOrder, planOrder, answerFor}

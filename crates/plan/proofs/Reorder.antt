@@ -8,13 +8,11 @@ use native.Mathlib.Omega.{arith}
 use lib.Dec.{leb, eqb}
 use lib.IntN.{ℤ}
 use lib.ListN.{length}
-use borrow.Author.Tests.{eqb-true, leb-true}
 use Rattle.numbers.specs.declared.answer.Answer.{Answer}
 use Rattle.numbers.specs.declared.answer.Answer.the-variants.{Done}
-use Rattle.zint.proofs.Range.{and-both}
 use Rattle.ladder.proofs.Ladder.{all-kept}
 use Rattle.ladder.proofs.Promise.{lent-done}
-use Rattle.edges.specs.Rules.{inRange, isPlane}
+use Rattle.edges.proofs.Placed.{plane-is}
 use Rattle.reorder.specs.Test.{Decides}
 use Rattle.reorder.specs.Once.{Once}
 use Rattle.reorder.specs.Order.{Kept, Accepted}
@@ -22,12 +20,13 @@ use Rattle.reorder.proofs.Once.{fresh-of-once}
 use Rattle.reorder.proofs.Reorder.{reorder}
 use Rattle.reorder.proofs.Check.{once-decides, kept-decides}
 use Rattle.job.specs.Row.{rowAt}
-use Rattle.single.specs.Jobs.{jobs}
-use Rattle.single.proofs.Clash.{clash-exact}
-use Rattle.single.proofs.Laws.{job-laws}
+use Rattle.work.specs.Jobs.{jobs}
+use Rattle.work.proofs.Clash.{clash-exact}
+use Rattle.work.proofs.Laws.{job-laws}
 use Rattle.order.specs.Rules.{jobsIn, isOnce, isKept}
 use Rattle.plan.specs.Rules.{isPlan, runRules, runAnswer}
 use Rattle.plan.specs.Run.{Memory, inOrder, planOrder, answerFor, Ran, Rows}
+use Rattle.plan.proofs.Tests.{parts}
 
 module _ (W H : ℕ) (differences : List ℤ) (plan order : List ℕ) where
   -- rules 22 and 23 are exact
@@ -50,19 +49,16 @@ module _ (W H : ℕ) (differences : List ℤ) (plan order : List ℕ) where
     pub accepted : Accepted (jobs W H differences) (rowAt plan) (jobsIn plan) order
 
   pub ready : (before : Memory W H differences) → answerFor W H differences plan order before ≡ Done → Ready before
-  unfolding runAnswer isPlane isPlan
+  unfolding runAnswer
   ready before e =
       let all = all-kept (runRules W H (length (before .pic)) (length differences) plan order (length (before .answers))) tt e in
-      let p = and-both (inRange W && inRange H) (eqb (length (before .pic)) (W * H)) (all .0) in
-      let q = and-both (eqb (length plan % 16) 0 && leb (jobsIn plan) 1024 && eqb (length order) (jobsIn plan)) _ (all .1 .0) in
-      let r = and-both (eqb (length plan % 16) 0 && leb (jobsIn plan) 1024) _ (q .0) in
-      let t = and-both (eqb (length plan % 16) 0) _ (r .0) in
+      let p = parts plan order (length (before .answers)) (all .1 .0) in
       record {
-        samples = eqb-true _ _ (p .1);
-        whole = eqb-true _ _ (t .0);
-        few = leb-true _ _ (t .1);
-        entries = eqb-true _ _ (r .1);
-        slots = eqb-true _ _ (q .1);
+        samples = plane-is W H (length (before .pic)) (all .0) .2;
+        whole = p .0;
+        few = p .1;
+        entries = p .2;
+        slots = p .3;
         accepted = record { once = once-exact .0 (all .1 .1 .0); kept = kept-exact .0 (all .1 .1 .1 .0) };
       }
 

@@ -15,8 +15,8 @@ use Rattle.reorder.specs.Order.{doRow, run}
 use Rattle.reorder.proofs.Run.{run-next}
 use Rattle.job.specs.Row.{Row, rowAt}
 use Rattle.job.specs.Rules.{jobAnswer}
-use Rattle.single.specs.Done.{jobDone}
-use Rattle.single.specs.Jobs.{jobs}
+use Rattle.work.specs.Done.{jobDone}
+use Rattle.work.specs.Jobs.{jobs}
 use Rattle.plan.specs.Run.{Memory, memory, inOrder}
 
 module _ (W H : ℕ) (differences : List ℤ) (plan order : List ℕ) (before : Memory W H differences) where

@@ -8,21 +8,13 @@ use lib.Dec.{leb, eqb}
 use lib.ListN.{length}
 use borrow.Author.Tests.{eqb-true, leb-true}
 use Rattle.zint.proofs.Range.{and-both}
-use Rattle.edges.specs.Rules.{inRange, isPlane}
 use Rattle.reorder.specs.Check.{onceB}
 use Rattle.order.specs.Rules.{jobsIn}
 use Rattle.order.specs.Window.{Walk}
 use Rattle.plan.specs.Rules.{isPlan}
 
--- ---- the plane's sides
-pub sides : (W H samples : ℕ) → isPlane W H samples ≡ true → (W ≤ 4096) × (H ≤ 4096)
-unfolding isPlane
-sides W H samples e =
-    let p = and-both (inRange W) (inRange H) (and-both (inRange W && inRange H) _ e .0) in
-    (leb-true _ _ (and-both (leb 4 W) _ (p .0) .1), leb-true _ _ (and-both (leb 4 H) _ (p .1) .1))
-
 module _ (plan order : List ℕ) (answers : ℕ) (e : isPlan plan (length order) answers ≡ true) where
-  parts : (length plan % 16 ≡ 0) × (jobsIn plan ≤ 1024) × (length order ≡ jobsIn plan) × (answers ≡ jobsIn plan)
+  pub parts : (length plan % 16 ≡ 0) × (jobsIn plan ≤ 1024) × (length order ≡ jobsIn plan) × (answers ≡ jobsIn plan)
   unfolding isPlan
   parts =
       let q = and-both (eqb (length plan % 16) 0 && leb (jobsIn plan) 1024 && eqb (length order) (jobsIn plan)) _ e in

@@ -12,7 +12,7 @@ use Rattle.edges.specs.Rules.{isPlane}
 use Rattle.ladder.specs.Promise.{lent, Promise}
 use Rattle.reorder.specs.Order.{Sheet, run, upFrom}
 use Rattle.job.specs.Row.{rowAt}
-use Rattle.single.specs.Jobs.{jobs}
+use Rattle.work.specs.Jobs.{jobs}
 use Rattle.order.specs.Rules.{jobsIn}
 use Rattle.plan.specs.Rules.{runAnswer}
 

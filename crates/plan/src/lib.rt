@@ -1,7 +1,7 @@
 // A plan of block jobs over one picture, run in an order (document 01). `run` takes any input and tests 20 to 23; the plane and the answers that it
 // leaves are those of the plan's own order, whichever accepted order it was given.
-pub mod rows;
-pub mod rules;
+mod rows;
+mod rules;
 
 use numbers::answer::Answer;
 ghost use Rattle.plan.specs.Run.{RanOver};

@@ -1,5 +1,4 @@
 // "Job refusals go into the answer list (0 is done; entry i is plan row i) and the run continues." (document 01, Refusal numbers)
-use single::work;
 ghost use mathlib.Core.Path.{_≡_};
 ghost use lib.ListN.{length};
 ghost use Rattle.plan.specs.Run.{DoneInOrder, Rows};

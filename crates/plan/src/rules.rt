@@ -3,8 +3,6 @@ use numbers::answer::Answer;
 use numbers::plan::Plan;
 use numbers::word::Word;
 use order::kept;
-use order::once;
-use order::own;
 ghost use mathlib.Core.Path.{_≡_};
 ghost use Rattle.plan.specs.Rules.{isPlan, runAnswer};
 
@@ -43,7 +41,7 @@ pub fn refused(
     if !is_plan(plan, order.len(), answers) {
         return Answer::BadPlan;
     }
-    if own::is_plan_order(order) {
+    if once::is_plan_order(order) {
         return Answer::Done;
     }
     if !once::once(order) {

@@ -13,10 +13,11 @@ use Rattle.numbers.specs.declared.answer.Answer.the-variants.{BadPlane, BadPlan
 use Rattle.ladder.specs.Ladder.{ladder}
 use Rattle.ladder.specs.Promise.{lent, Promise}
 use Rattle.ladder.proofs.Promise.{refused}
-use Rattle.edges.specs.Rules.{isPlane}
+use Rattle.edges.specs.Rules.{isPlane, readRules}
 use Rattle.job.specs.Row.{Row, specOf}
-use Rattle.job.specs.Rules.{rowRules, sampleRules, jobAnswer}
-use Rattle.single.specs.Done.{jobDone, singleAnswer, singleDone}
+use Rattle.job.specs.Rules.{rowRules, jobAnswer}
+use Rattle.work.specs.Done.{jobDone}
+use Rattle.single.specs.Single.{singleAnswer, singleDone}
 
 -- what a refusal leaves, it leaves twice
 lent-twice : (b : Bool) (done before : List Float) → cond b (cond b done before) before ≡ cond b done before
@@ -28,7 +29,7 @@ module _ (W H : ℕ) (differences : List ℤ) (row : Row) (plane : List Float) w
   n = length differences
 
   abbrev later : Answer
-  later = ladder (rowRules W H n row ++ sampleRules W (specOf row) plane)
+  later = ladder (rowRules W H n row ++ readRules plane W (specOf row))
 
   abbrev Single : Answer → List Float → Type 0
   Single r after = Promise (singleAnswer W H n row plane) (singleDone W H differences row plane) r after

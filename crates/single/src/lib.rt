@@ -1,8 +1,4 @@
-// One job done (document 01, From samples to edges): its block is predicted from the plane and written with its differences. `run_job` takes any input.
-pub mod by_mode;
-pub mod work;
-pub mod write;
-
+// A single job (document 01, Refusal numbers): "a single job 20, 21, then the same". `run_job` takes any input.
 use job::job::FoundJob;
 use job::job::Job;
 use numbers::answer::Answer;
@@ -10,8 +6,8 @@ use numbers::word::Word;
 ghost use Prim.Native.Nat.{_*_, _≤_};
 ghost use lib.ListN.{length};
 ghost use Rattle.ladder.specs.Promise.{Promise};
-ghost use Rattle.single.specs.Granted.{Tested, readAnswer, readDone};
-ghost use Rattle.single.specs.Done.{SingleDone};
+ghost use Rattle.work.specs.Granted.{Tested, readAnswer, readDone};
+ghost use Rattle.single.specs.Single.{SingleDone};
 
 // A job that 1 to 7 do not refuse, with room for its prediction: the edges have theirs here.
 fn edged(plane: &mut [f32], width: usize, job: Job, differences: &[i16], out: &mut [f32]) -> Answer

@@ -37,17 +37,11 @@ returns : tie.Need-returns
 returns c =
     refused _ _ (c .before .before .refused .ensures) (sym (c .before .is-done .ensures) ∙ not-true (c .before .is-done .result) (c .if1 .taken))
 
-fill-above-requires : tie.Need-fill-above-requires
-fill-above-requires c κs = let g = granted (c .before) in (g .place, g .read, g .long .0)
-
-fill-left-requires : tie.Need-fill-left-requires
-fill-left-requires c κs = let g = granted (c .before .before .before .before) in (g .place, g .read, g .long .1)
-
-corner-of-requires : tie.Need-corner-of-requires
-corner-of-requires c κs = let g = granted (c .before .before .before .before .before .before) in (g .place, g .read)
+fill-edges-requires : tie.Need-fill-edges-requires
+fill-edges-requires c κs = let g = granted (c .before .before) in ((g .place, g .read), (g .long .0, g .long .1))
 
 slice-set-from-corner : tie.Need-slice-set-from-corner
-slice-set-from-corner c = omega (arith, granted (c .before .before .before .before .before .before .before) .long .2)
+slice-set-from-corner c = omega (arith, granted (c .before .before .before .before .before) .long .2)
 
 same-length : tie.Need-same-length
 same-length c = search needs
@@ -60,16 +54,13 @@ same-length-3 c = search needs
 
 returns-2 : tie.Need-returns-2
 returns-2 c =
-    let k = c .before .before .before .before .before .before .before in
+    let f = c .before .before .fill-edges in
+    let k = c .before .before .before .before .before in
     let list = s k .args .corner .now in
-    let first = back w32 {z = c .corner-of .result} (sfits-of (c .corner-of .ok)) ∙ c .corner-of .ensures in
+    let first = back w32 {z = f .result} (sfits-of (f .ok)) ∙ f .ensures .2 in
     let corner = filled-more 0 _ list list _ (pos 0) (granted k .long .2) (sym (filled-none _ list)) first in
     finished _ _ (k .before .before .refused .ensures) (done k)
-    (λ j. record {
-      above = c .before .before .before .before .before .fill-above .ensures j;
-      left = c .before .before .fill-left .ensures j;
-      corner = corner j;
-    })
+    (λ j. record { above = f .ensures .0 j; left = f .ensures .1 j; corner = corner j })
 
 pub build-refs-spec : {M : Type 1} → statement M
 build-refs-spec =
@@ -78,9 +69,7 @@ build-refs-spec =
     refused-requires
     is-done-requires
     returns
-    fill-above-requires
-    fill-left-requires
-    corner-of-requires
+    fill-edges-requires
     slice-set-from-corner
     same-length
     same-length-2

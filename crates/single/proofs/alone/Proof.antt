@@ -3,7 +3,6 @@ use borrow.Author.Needs.{needs}
 use native.Mathlib.Nat.{mul-le-mul}
 use native.Mathlib.Omega.{arith}
 use Prim.Native.Nat.{_≤_}
-use Rattle.single.proofs.Granted.{side}
 use Rattle.single.proofs.alone.Statement.{statement}
 use Rattle.single.proofs.alone.Tie as tie
 
@@ -47,7 +46,7 @@ slice-aggregate-edged-4 : tie.Need-slice-aggregate-edged-4
 slice-aggregate-edged-4 c = search needs
 
 edged-requires-4 : tie.Need-edged-requires-4
-edged-requires-4 c κs = let t = c .before .before .before .before .before .before .before .before .before .before in let h = side (t .pre) .1 in (t .pre, omega (arith, mul-le-mul h h))
+edged-requires-4 c κs = let t = c .before .before .before .before .before .before .before .before .before .before in let h = t .pre .place .stands .side .1 in (t .pre, omega (arith, mul-le-mul h h))
 
 same-length-4 : tie.Need-same-length-4
 same-length-4 c = search needs

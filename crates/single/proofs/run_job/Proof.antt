@@ -6,7 +6,7 @@ use mathlib.Core.Bool.{true}
 use lib.ListN.{length}
 use Rattle.edges.specs.Rules.{isPlane}
 use Rattle.single.proofs.Singles.{no-plane, no-row, goes-on}
-use Rattle.single.proofs.Tested.{tested, not-read, read-on}
+use Rattle.work.proofs.Tested.{tested, not-read, read-on}
 use Rattle.single.proofs.run_job.Statement.{statement}
 use Rattle.single.proofs.run_job.Tie as tie
 

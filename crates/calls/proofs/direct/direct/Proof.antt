@@ -50,8 +50,8 @@ returns-3 c =
       not-true (s (c .before) .args .named) (c .if1 .taken),
     )
 
-is-long-requires : tie.Need-is-long-requires
-is-long-requires c κs = size-most _ (size (c .before .before .before .before .before))
+lists-long-requires : tie.Need-lists-long-requires
+lists-long-requires c κs = size-most _ (size (c .before .before .before .before .before))
 
 returns-4 : tie.Need-returns-4
 unfolding directAnswer
@@ -62,14 +62,14 @@ returns-4 c =
       size (k .before .before .before),
       depth k,
       named e,
-      sym (c .before .is-long .ensures) ∙ not-true (c .before .is-long .result) (c .if2 .taken),
+      sym (c .before .lists-long .ensures) ∙ not-true (c .before .lists-long .result) (c .if2 .taken),
     )
 
 max-requires : tie.Need-max-requires
 max-requires c κs = search needs
 
-is-read-requires : tie.Need-is-read-requires
-is-read-requires c κs =
+entries-in-range-requires : tie.Need-entries-in-range-requires
+entries-in-range-requires c κs =
     let l = long-all _ _ _ _ (long (c .before)) in
     (size-most _ (size (c .before .before .before .before .before .before .before .before)), l .0, l .1)
 
@@ -84,7 +84,7 @@ returns-5 c =
       depth k,
       named e,
       long f,
-      sym (read-is (c .before)) ∙ not-true (c .before .is-read .result) (c .if3 .taken),
+      sym (read-is (c .before)) ∙ not-true (c .before .entries-in-range .result) (c .if3 .taken),
     )
 
 returns-6 : tie.Need-returns-6
@@ -98,7 +98,7 @@ returns-6 c =
       depth k,
       named e,
       long f,
-      sym (read-is (c .before)) ∙ not-false (c .before .is-read .result) (c .if3 .left),
+      sym (read-is (c .before)) ∙ not-false (c .before .entries-in-range .result) (c .if3 .left),
     )
 
 pub direct-spec : {M : Type 1} → statement M
@@ -114,9 +114,9 @@ direct-spec =
     enum-told-3
     returns-2
     returns-3
-    is-long-requires
+    lists-long-requires
     returns-4
     max-requires
-    is-read-requires
+    entries-in-range-requires
     returns-5
     returns-6)

@@ -1,7 +1,7 @@
 -- `hull` meets its contract. Assumes nothing.
 use Prim.Native.Nat.{_+_, _-_}
 use native.Mathlib.Omega.{arith}
-use Rattle.order.proofs.Around.{one-most, past-most, one-near}
+use Rattle.clash.proofs.Around.{one-most, past-most, one-near}
 use borrow.Author.Needs.{needs}
 use Rattle.order.proofs.hull.hull.Statement.{statement}
 use Rattle.order.proofs.hull.hull.Tie as tie

@@ -2,7 +2,7 @@
 use native.Mathlib.Omega.{arith}
 use mathlib.Core.Path.{sym, _∙_, ap}
 use borrow.Author.Tests.{not-true, not-false}
-use Rattle.order.specs.Hull.{hullOf, onlyIf}
+use Rattle.clash.specs.Hull.{hullOf, onlyIf}
 use Rattle.order.specs.Sides.{sidesOf}
 use borrow.Author.Needs.{needs}
 use Rattle.order.proofs.hull.hull_sides.Statement.{statement}

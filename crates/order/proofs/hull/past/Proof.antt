@@ -1,6 +1,6 @@
 -- `past` meets its contract. Assumes nothing.
 use mathlib.Core.Path.{sym, _∙_, ap}
-use Rattle.order.specs.Hull.{past}
+use Rattle.clash.specs.Hull.{past}
 use borrow.Author.Needs.{needs}
 use Rattle.order.proofs.hull.past.Statement.{statement}
 use Rattle.order.proofs.hull.past.Tie as tie

@@ -4,9 +4,9 @@ use mathlib.Core.Path.{_≡_, _∙_, ap}
 use mathlib.Core.Bool.{true≢false}
 use Rattle.job.specs.Row.{rowAt}
 use Rattle.job.specs.Touches.{blockAt}
-use Rattle.order.specs.Hull.{hullOf}
+use Rattle.clash.specs.Hull.{hullOf}
 use Rattle.order.specs.Sides.{blockSides, hullSides, noted}
-use Rattle.order.proofs.Placed.{row-is}
+use Rattle.clash.proofs.Placed.{row-is}
 use Rattle.order.proofs.Bounds.{placed-if, sides-is, searched-as}
 use borrow.Author.Needs.{needs}
 use Rattle.order.proofs.kept.pass.Statement.{statement}

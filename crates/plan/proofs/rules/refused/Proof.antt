@@ -9,11 +9,12 @@ use lib.ListN.{length, drop}
 use Rattle.ladder.specs.Ladder.{Rule, ladder}
 use Rattle.edges.specs.Rules.{isPlane}
 use Rattle.reorder.specs.Check.{onceB}
-use Rattle.order.specs.Own.{isOwn}
+use Rattle.once.specs.PlanOrder.{isPlanOrder}
 use Rattle.plan.specs.Rules.{isPlan, runRules, runAnswer}
 use Rattle.ladder.proofs.Ladder.{kept, broken}
 use Rattle.order.proofs.Entries.{once-is, own-is-once, own-is-kept}
-use Rattle.plan.proofs.Tests.{sides, few, whole, walk}
+use Rattle.edges.proofs.Placed.{plane-is}
+use Rattle.plan.proofs.Tests.{few, whole, walk}
 use Rattle.plan.proofs.rules.refused.Statement.{statement}
 use Rattle.plan.proofs.rules.refused.Tie as tie
 
@@ -84,7 +85,7 @@ unfolding runAnswer
 returns-3 c =
     let o = c .before .is-plan-order in
     let e = c .before .before in
-    let own : isOwn (t2 e .args .order .now) ≡ true = sym (o .ensures) ∙ c .if3 .taken in
+    let own : isPlanOrder (t2 e .args .order .now) ≡ true = sym (o .ensures) ∙ c .if3 .taken in
     sym (kept _ _ _ _ (own-is-kept _ _ (long e) own _ _ _) (kept _ _ _ _ (own-is-once _ _ (long e) own) (two e)))
 
 once-requires : tie.Need-once-requires
@@ -95,7 +96,7 @@ unfolding runAnswer
 returns-4 c = let o = c .before .once in let e = c .before .before .before .before in broken _ _ _ _ (sym (once-is _ _ (long e)) ∙ sym (o .ensures) ∙ not-true (o .result) (c .if4 .taken)) (two e)
 
 kept-requires : tie.Need-kept-requires
-kept-requires c κs = let e = e2 c in walk (t2 e .args .plan .now) (t2 e .args .order .now) (t2 e .args .answers) (rows e) _ _ (sides _ _ _ (plane (e .before .before))) (holds c)
+kept-requires c κs = let e = e2 c in walk (t2 e .args .plan .now) (t2 e .args .order .now) (t2 e .args .answers) (rows e) _ _ (let p = plane-is _ _ _ (plane (e .before .before)) in (p .0, p .1)) (holds c)
 
 returns-5 : tie.Need-returns-5
 unfolding runAnswer

@@ -12,7 +12,7 @@ use Rattle.numbers.specs.Size.{isSize}
 use Rattle.numbers.specs.Depth.{isDepth, most}
 use Rattle.numbers.proofs.Agree.{size-yes, depth-yes, depth-back}
 use Rattle.zint.proofs.Bound.{back}
-use Rattle.calls.specs.Direct.{isLong, isRead}
+use Rattle.calls.specs.Direct.{listsLong, entriesInRange}
 use Rattle.calls.proofs.direct.direct.Tie as tie
 
 pub size : (c : tie.After-enum-told) → isSize (c .before .before .before .args .b) ≡ true
@@ -32,8 +32,8 @@ module _ (c : tie.Else2) where
   abbrev pub t : tie.Start
   t = s (c .before .before .before)
 
-  pub long : isLong (t .args .b) (length (t .args .above .now)) (length (t .args .left .now)) (t .args .n) ≡ true
-  long = sym (c .before .is-long .ensures) ∙ not-false (c .before .is-long .result) (c .if2 .left)
+  pub long : listsLong (t .args .b) (length (t .args .above .now)) (length (t .args .left .now)) (t .args .n) ≡ true
+  long = sym (c .before .lists-long .ensures) ∙ not-false (c .before .lists-long .result) (c .if2 .left)
 
 -- M of the depth that was found
 max-is : (c : tie.After-max) → toZ w32 (ofZ w32 (c .max .result)) ≡ pos (most (t (c .before) .args .d))
@@ -43,5 +43,5 @@ max-is c =
     ∙ c .max .ensures
     ∙ ap (λ n. pos (most n)) (depth-back _ _ (sym (d .before .before .of2 .ensures) ∙ d .depth .given .1))
 
-pub read-is : (c : tie.After-is-read) → c .is-read .result ≡ isRead (t (c .before .before) .args .b) (pos (most (t (c .before .before) .args .d))) (t (c .before .before) .args .above .now) (t (c .before .before) .args .left .now) (t (c .before .before) .args .corner)
-read-is c = simp (max-is (c .before), toZ-ofZ, t (c .before .before) .fits .corner) at (c .is-read .ensures)
+pub read-is : (c : tie.After-entries-in-range) → c .entries-in-range .result ≡ entriesInRange (t (c .before .before) .args .b) (pos (most (t (c .before .before) .args .d))) (t (c .before .before) .args .above .now) (t (c .before .before) .args .left .now) (t (c .before .before) .args .corner)
+read-is c = simp (max-is (c .before), toZ-ofZ, t (c .before .before) .fits .corner) at (c .entries-in-range .ensures)

@@ -1,0 +1,3 @@
+-- The code's rectangles, and the hull of a job.
+pub mod Hull
+pub mod Rects

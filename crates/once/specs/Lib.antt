@@ -1,0 +1,2 @@
+-- The plan's own order.
+pub mod PlanOrder
