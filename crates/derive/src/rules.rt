@@ -20,7 +20,10 @@ fn are_references(w: Window, luma: usize, chroma: usize) -> bool
     if !r.is_sizes() {
         return false;
     }
-    r.is_held(luma) & r.is_held(chroma)
+    if !r.is_held(luma) {
+        return false;
+    }
+    r.is_held(chroma)
 }
 
 // What the tests 10, 11, 12 and 9 answer, where the lists have so many entries.

@@ -20,7 +20,10 @@ impl Reference {
     pub fn is_sizes(self) -> bool
         ensures { λ r. ⌜ r ≡ isSizes (self .width) (self .height) ⌝ }
     {
-        (self.width <= Reference::MOST) & (self.height <= Reference::MOST)
+        if Reference::MOST < self.width {
+            return false;
+        }
+        self.height <= Reference::MOST
     }
 
     // Whether a list of n entries holds the rows.

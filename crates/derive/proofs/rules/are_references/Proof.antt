@@ -2,7 +2,7 @@
 use borrow.Author.Needs.{needs}
 use borrow.Author.Tests.{not-true, not-false}
 use mathlib.Core.Path.{_≡_, sym, _∙_}
-use mathlib.Core.Bool.{true, _&&_}
+use mathlib.Core.Bool.{true}
 use Rattle.terms.specs.Reference.{isSizes}
 use Rattle.terms.proofs.Granted.{sizes-all}
 use Rattle.derive.specs.Rules.{areReferences}
@@ -22,12 +22,21 @@ sizes c = let h = c .before .is-sizes in sym (h .ensures) ∙ not-false (h .resu
 is-held-requires : tie.Need-is-held-requires
 is-held-requires c κs = sizes-all _ _ (sizes c) .1
 
-is-held-requires-2 : tie.Need-is-held-requires-2
-is-held-requires-2 c κs = sizes-all _ _ (sizes (c .before)) .1
-
 returns-2 : tie.Need-returns-2
 unfolding areReferences
-returns-2 c = simp (sizes (c .before .before)) (λ j. c .before .is-held .ensures j && c .is-held2 .ensures j)
+returns-2 c =
+    let h = c .before .is-held in
+    simp (sizes (c .before .before), sym (h .ensures) ∙ not-true (h .result) (c .if2 .taken))
+
+is-held-requires-2 : tie.Need-is-held-requires-2
+is-held-requires-2 c κs = sizes-all _ _ (sizes (c .before .before)) .1
+
+returns-3 : tie.Need-returns-3
+unfolding areReferences
+returns-3 c =
+    let e = c .before in
+    let h = e .before .is-held in
+    simp (sizes (e .before .before), sym (h .ensures) ∙ not-false (h .result) (e .if2 .left)) (c .is-held2 .ensures)
 
 pub are-references-spec : {M : Type 1} → statement M
-are-references-spec = tie.close (tie.spec is-sizes-requires returns is-held-requires is-held-requires-2 returns-2)
+are-references-spec = tie.close (tie.spec is-sizes-requires returns is-held-requires returns-2 is-held-requires-2 returns-3)
