@@ -3,13 +3,6 @@ use crate::candidate::Candidate;
 use edges::spec::IntraRefSpec;
 use greymap::Greymap;
 
-// The block's place and neighbours, its flags, and its index in the plan.
-pub struct Job {
-    pub spec: IntraRefSpec,
-    pub flags: u16,
-    pub index: u16,
-}
-
 // A block's index in the plan.
 pub fn index(across: u8, c: u8, r: u8) -> u16 {
     greymap::product(across, r) + c as u16
@@ -33,7 +26,7 @@ fn top_right(g: Greymap, c: u8, r: u8) -> u16 {
 }
 
 // Where the block in a column and a row of blocks stands, with the neighbours that a decoder has: none below.
-fn spec_of(g: Greymap, c: u8, r: u8) -> IntraRefSpec {
+pub fn spec_of(g: Greymap, c: u8, r: u8) -> IntraRefSpec {
     IntraRefSpec {
         x: 8 * c as u16,
         y: 8 * r as u16,
@@ -50,21 +43,11 @@ fn spec_of(g: Greymap, c: u8, r: u8) -> IntraRefSpec {
 }
 
 // Flag bits (document 01): 0 above, 1 left, 2 luma, 3 edge filter. A greymap is luma, and its edges are filtered.
-fn flags_of(c: u8, r: u8) -> u16 {
+pub fn flags_of(c: u8, r: u8) -> u16 {
     if r == 0 {
         if c == 0 { 12 } else { 14 }
     } else {
         if c == 0 { 13 } else { 15 }
-    }
-}
-
-// The job of the block in a column and a row of blocks.
-pub fn job_of(g: Greymap, c: u8, r: u8) -> Job {
-    let spec = spec_of(g, c, r);
-    Job {
-        spec,
-        flags: flags_of(c, r),
-        index: index(g.across, c, r),
     }
 }
 
@@ -101,9 +84,9 @@ fn put_words(words: &[u16; 16], index: u16, plan: &mut [u16]) {
     }
 }
 
-// The job's row, by the predictor that was taken.
-pub fn put_row(job: Job, taken: Candidate, plan: &mut [u16]) {
-    let spec = job.spec;
-    let row = words(spec, job.flags, taken, job.index);
-    put_words(&row, job.index, plan);
+// The row of the block in a column and a row of blocks, by the number of the predictor that was taken.
+pub fn put_row(g: Greymap, c: u8, r: u8, taken: u8, plan: &mut [u16]) {
+    let k = index(g.across, c, r);
+    let row = words(spec_of(g, c, r), flags_of(c, r), Candidate::of(taken), k);
+    put_words(&row, k, plan);
 }

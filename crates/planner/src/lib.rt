@@ -7,28 +7,30 @@ pub mod order;
 
 use candidate::Candidate;
 use greymap::Greymap;
-use jobs::Job;
 use nearest::Choice;
 
-// The differences of a block from what a predictor makes of its edges.
+// The differences of the block in a column and a row of blocks from what a predictor, by its number, makes of its edges.
 fn put_differences(
-    taken: Candidate,
-    job: Job,
+    taken: u8,
+    g: Greymap,
+    c: u8,
+    r: u8,
     block: &[u16; 64],
     above: &[i32],
     left: &[i32],
     corner: i32,
     differences: &mut [i16],
 ) {
-    let spec = job.spec;
     let mut out = [0.0f32; 64];
-    taken.predict(spec.d, job.flags, above, left, corner, &mut out);
-    nearest::put_differences(&out, block, job.index, differences);
+    Candidate::of(taken).predict(g.d, jobs::flags_of(c, r), above, left, corner, &mut out);
+    nearest::put_differences(&out, block, jobs::index(g.across, c, r), differences);
 }
 
-// A block's row and its differences, from its edges; and the predictor that was taken.
+// The block's row and its differences, from its edges; and the predictor that was taken.
 fn put_job(
-    job: Job,
+    g: Greymap,
+    c: u8,
+    r: u8,
     block: &[u16; 64],
     above: &[i32],
     left: &[i32],
@@ -36,55 +38,70 @@ fn put_job(
     plan: &mut [u16],
     differences: &mut [i16],
 ) -> Choice {
-    let spec = job.spec;
-    let best = nearest::nearest(block, spec.d, job.flags, above, left, corner);
-    let taken = Candidate::of(best.number);
-    put_differences(taken, job, block, above, left, corner, differences);
-    jobs::put_row(job, taken, plan);
+    let best = nearest::nearest(block, g.d, jobs::flags_of(c, r), above, left, corner);
+    put_differences(
+        best.number,
+        g,
+        c,
+        r,
+        block,
+        above,
+        left,
+        corner,
+        differences,
+    );
+    jobs::put_row(g, c, r, best.number, plan);
     best
 }
 
 // The same, of the block's samples.
 fn put_samples(
     original: &[f32],
-    width: u16,
-    job: Job,
+    g: Greymap,
+    c: u8,
+    r: u8,
     above: &[i32],
     left: &[i32],
     corner: i32,
     plan: &mut [u16],
     differences: &mut [i16],
 ) -> Choice {
-    let spec = job.spec;
-    let samples = block::block_of(original, width, spec.x, spec.y);
-    put_job(job, &samples, above, left, corner, plan, differences)
+    let samples = block::block_of(original, 8 * g.across as u16, 8 * c as u16, 8 * r as u16);
+    put_job(g, c, r, &samples, above, left, corner, plan, differences)
 }
 
-// The job of a block at its place in the lists. Where its edges were refused, the run refuses the job.
+// The block's edges. Where they are refused, the run refuses the job.
+fn read_edges(
+    original: &[f32],
+    g: Greymap,
+    c: u8,
+    r: u8,
+    above: &mut [i32],
+    left: &mut [i32],
+    corner: &mut [i32],
+) {
+    let spec = jobs::spec_of(g, c, r);
+    edges::build_refs(original, g.width(), g.height(), spec, above, left, corner);
+}
+
+// The job of a block at its place in the lists.
 fn put_block(
     original: &[f32],
     g: Greymap,
-    job: Job,
+    c: u8,
+    r: u8,
     plan: &mut [u16],
     differences: &mut [i16],
 ) -> Choice {
-    let spec = job.spec;
     let mut above = [0i32; 128];
     let mut left = [0i32; 128];
     let mut corner = [0i32; 1];
-    edges::build_refs(
-        original,
-        g.width(),
-        g.height(),
-        spec,
-        &mut above,
-        &mut left,
-        &mut corner,
-    );
+    read_edges(original, g, c, r, &mut above, &mut left, &mut corner);
     put_samples(
         original,
-        8 * g.across as u16,
-        job,
+        g,
+        c,
+        r,
         &above,
         &left,
         corner[0],
@@ -117,9 +134,8 @@ fn put_at(
     taken: &mut [u8],
     errors: &mut [u32],
 ) {
-    let job = jobs::job_of(g, c, r);
-    let best = put_block(original, g, job, plan, differences);
-    note(best, job.index, taken, errors);
+    let best = put_block(original, g, c, r, plan, differences);
+    note(best, jobs::index(g.across, c, r), taken, errors);
 }
 
 // The jobs of a row of blocks.
