@@ -41,6 +41,11 @@ pub fn z1_rows(w: usize, h: usize, lum: bool, dx: usize, m: i32, list: &[i32], o
     requires { ⌜ Holds (h * dx / 64 + w + 7) (now list) ⌝ }
     ensures { λ _. ⌜ now (out .exit) ≡ block w h (ahead lum m dx (now (list .entry))) (now (out .entry)) ⌝ }
 {
-    let filters = interp::table::table_of(lum);
-    z1_by(w, h, lum, &filters, dx, m, list, out);
+    if lum {
+        let filters = interp::table::luma_table();
+        z1_by(w, h, lum, &filters, dx, m, list, out);
+    } else {
+        let filters = interp::table::chroma_table();
+        z1_by(w, h, lum, &filters, dx, m, list, out);
+    }
 }

@@ -82,6 +82,11 @@ pub fn z3_strips(
     requires { ⌜ Holds (w * dy / 64 + 4 * n + 7) (now list) ⌝ }
     ensures { λ _. ⌜ now (out .exit) ≡ block w (4 * n) (λ r c. ahead lum m dy (now (list .entry)) c r) (now (out .entry)) ⌝ }
 {
-    let filters = interp::table::table_of(lum);
-    z3_by(w, n, lum, &filters, dy, m, list, strip, out);
+    if lum {
+        let filters = interp::table::luma_table();
+        z3_by(w, n, lum, &filters, dy, m, list, strip, out);
+    } else {
+        let filters = interp::table::chroma_table();
+        z3_by(w, n, lum, &filters, dy, m, list, strip, out);
+    }
 }
