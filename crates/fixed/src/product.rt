@@ -53,8 +53,8 @@ fn rounded(p: i32, k: u32) -> i32
     away(p, k)
 }
 
-// a - b, and 0 where b is more.
-pub fn less(a: u32, b: u32) -> u32
+// a - b, and 0 where b is more: a difference that stops at 0.
+pub fn monus(a: u32, b: u32) -> u32
     ensures { λ r. ⌜ r ≡ a - b ⌝ }
 {
     if a < b { 0 } else { a - b }
@@ -64,10 +64,10 @@ pub fn less(a: u32, b: u32) -> u32
 pub fn mul_fixed32_adapt(a: i32, b: i32, shift: u32) -> i32
     ensures { λ r. ⌜ r ≡ mulFixed a b shift ⌝ }
 {
-    let need = less(digits(a) + digits(b), 29);
+    let need = monus(digits(a) + digits(b), 29);
     let s1 = need / 2;
     let s2 = need - s1;
-    rounded((a >> s1) * (b >> s2), less(shift, need))
+    rounded((a >> s1) * (b >> s2), monus(shift, need))
 }
 
 // A second factor below this, and not negative, leaves no digit over: `mul_fixed32_fits` of mhccp.rs.

@@ -43,7 +43,7 @@ pub fn fill(a: i32, table: &mut [i64])
     let n = product::digits(a);
     let mut z = 0;
     while z < 12 {
-        let need = product::less(n + (12 - z) as u32, 29);
+        let need = product::monus(n + (12 - z) as u32, 29);
         let s = need / 2;
         table[z] = cleared(a, s);
         table[12 + z] = mask(need - s);

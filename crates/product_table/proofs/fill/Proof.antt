@@ -38,11 +38,11 @@ module _ (c : tie.In-loop Inv-loop μ-loop) where
   n-most : c .before .before .digits .result ≤ 32
   n-most = c .before .before .digits .ensures .1
 
-module _ (c : tie.After-less Inv-loop μ-loop) where
-  need : c .less .result ≡ overBy (a (c .before)) (12 - c .before .before .loop .z)
-  need = omega (arith, c .less .ensures, n= (c .before))
+module _ (c : tie.After-monus Inv-loop μ-loop) where
+  need : c .monus .result ≡ overBy (a (c .before)) (12 - c .before .before .loop .z)
+  need = omega (arith, c .monus .ensures, n= (c .before))
 
-  few : c .less .result ≤ 15
+  few : c .monus .result ≤ 15
   few = omega (arith, need, over-by-few (a (c .before)) (12 - c .before .before .loop .z) (s (c .before) .fits .a) (omega arith))
 
 digits-requires : tie.Need-digits-requires Inv-loop μ-loop
@@ -51,17 +51,17 @@ digits-requires c κs = search needs
 loop-holds : tie.Need-loop-holds Inv-loop μ-loop
 loop-holds c = (omega arith, wide-none _ _ (c .before .pre))
 
-sub-less : tie.Need-sub-less Inv-loop μ-loop
-sub-less c = omega arith
+sub-monus : tie.Need-sub-monus Inv-loop μ-loop
+sub-monus c = omega arith
 
-cast-less : tie.Need-cast-less Inv-loop μ-loop
-cast-less c = record { fits = omega arith }
+cast-monus : tie.Need-cast-monus Inv-loop μ-loop
+cast-monus c = record { fits = omega arith }
 
-add-less : tie.Need-add-less Inv-loop μ-loop
-add-less c = record { fits = omega (arith, n-most c) }
+add-monus : tie.Need-add-monus Inv-loop μ-loop
+add-monus c = record { fits = omega (arith, n-most c) }
 
-less-requires : tie.Need-less-requires Inv-loop μ-loop
-less-requires c κs = search needs
+monus-requires : tie.Need-monus-requires Inv-loop μ-loop
+monus-requires c κs = search needs
 
 cleared-requires : tie.Need-cleared-requires Inv-loop μ-loop
 cleared-requires c κs = omega (arith, few c)
@@ -121,10 +121,10 @@ fill-spec =
     μ-loop
     digits-requires
     loop-holds
-    sub-less
-    cast-less
-    add-less
-    less-requires
+    sub-monus
+    cast-monus
+    add-monus
+    monus-requires
     cleared-requires
     mul-table
     slice-set-from-table

@@ -14,7 +14,7 @@ use Rattle.fixed.proofs.product.mul_fixed32_adapt.Statement.{statement}
 use Rattle.fixed.proofs.product.mul_fixed32_adapt.Tie as tie
 
 -- what is over, and the product of the shifted factors as it is read back
-module _ (c : tie.After-less) where
+module _ (c : tie.After-monus) where
   abbrev s : tie.Start
   s = c .before .before .before
 
@@ -24,10 +24,10 @@ module _ (c : tie.After-less) where
   abbrev b : ℤ
   b = s .args .b
 
-  need : c .less .result ≡ over a b
+  need : c .monus .result ≡ over a b
   unfolding over
   need =
-      c .less .ensures ∙
+      c .monus .ensures ∙
       ap₂ (λ (x y : ℕ). (x + y) - 29)
       (simp (back w32 (s .fits .a)) at (c .before .before .digits .ensures .0))
       (simp (back w32 (s .fits .b)) at (c .before .digits2 .ensures .0))
@@ -47,11 +47,11 @@ digits-requires c κs = search needs
 digits-requires-2 : tie.Need-digits-requires-2
 digits-requires-2 c κs = search needs
 
-add-less : tie.Need-add-less
-add-less c = search needs
+add-monus : tie.Need-add-monus
+add-monus c = search needs
 
-less-requires : tie.Need-less-requires
-less-requires c κs = search needs
+monus-requires : tie.Need-monus-requires
+monus-requires c κs = search needs
 
 sub-s2 : tie.Need-sub-s2
 sub-s2 c = search needs
@@ -73,8 +73,8 @@ unfolding narrow
 mul-rounded c =
     let s = s c in simp (need c, back w32 (s .fits .a), back w32 (s .fits .b), back w32 (fa c), back w32 (fb c)) (fits c)
 
-less-requires-2 : tie.Need-less-requires-2
-less-requires-2 c κs = search needs
+monus-requires-2 : tie.Need-monus-requires-2
+monus-requires-2 c κs = search needs
 
 rounded-requires : tie.Need-rounded-requires
 unfolding narrow
@@ -91,7 +91,7 @@ returns c =
     let s = s x in
     back w32 {z = c .rounded .result} (sfits-of (c .rounded .ok)) ∙
     (simp (
-      c .before .less2 .ensures,
+      c .before .monus2 .ensures,
       need x,
       back w32 (s .fits .a),
       back w32 (s .fits .b),
@@ -106,14 +106,14 @@ mul-fixed32-adapt-spec =
     (tie.spec
     digits-requires
     digits-requires-2
-    add-less
-    less-requires
+    add-monus
+    monus-requires
     sub-s2
     cast-rounded
     shr-rounded
     cast-rounded-2
     shr-rounded-2
     mul-rounded
-    less-requires-2
+    monus-requires-2
     rounded-requires
     returns)
