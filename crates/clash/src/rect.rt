@@ -16,8 +16,8 @@ pub fn meet(a: Rect, b: Rect) -> bool
     requires { ⌜ Small a × Small b ⌝ }
     ensures { λ r. ⌜ r ≡ meetB (rectOf a) (rectOf b) ⌝ }
 {
-    if pick::most(a.x, b.x) < pick::least(a.x + a.w, b.x + b.w) {
-        pick::most(a.y, b.y) < pick::least(a.y + a.h, b.y + b.h)
+    if pick::max(a.x, b.x) < pick::min(a.x + a.w, b.x + b.w) {
+        pick::max(a.y, b.y) < pick::min(a.y + a.h, b.y + b.h)
     } else {
         false
     }

@@ -30,7 +30,7 @@ fn filter_part(s: usize, lim: usize, n: usize, pad: &[i32], to: &mut [i32])
     requires { ⌜ (0 < s) × (s ≤ 3) × (0 < lim) × (n ≤ 128) × (length (now to) ≡ n) × Ends n (now pad) ⌝ }
     ensures { λ _. ⌜ now (to .exit) ≡ tab (length (now (to .entry))) (λ i. filtered s lim n (place (now (pad .entry))) (i + 1)) ⌝ }
 {
-    let top = pick::least(lim - 1, n);
+    let top = pick::min(lim - 1, n);
     let start = 0;
     let from = 3;
     blur::blur_by(s, &pad[from..], &mut to[start..top]);

@@ -27,7 +27,7 @@ pub fn edge_in_range(
     requires { ⌜ Line (length (now plane)) start stride bs available top × (inside (pos 4095) m ≡ true) ⌝ }
     ensures { λ r. ⌜ r ≡ every (λ c. isSample m (runAt (now (plane .entry)) start stride (along bs available top c))) (2 * bs) ⌝ }
 {
-    let more = pick::least(top, bs);
+    let more = pick::min(top, bs);
     if available >= bs {
         return run::run_in_range(plane, start, stride, bs + more, m);
     }
@@ -51,8 +51,8 @@ pub fn read_edge(
     requires { ⌜ ((c : ℕ) → c < 2 * bs → Readable (runAt (now plane) start stride (along bs available top c))) ⌝ }
     ensures { λ _. ⌜ now (edge .exit) ≡ edgeOf bs (λ c. pos (reading (runAt (now (plane .entry)) start stride (along bs available top c)))) (now (edge .entry)) ⌝ }
 {
-    let near = pick::least(bs, available);
-    let end = bs + pick::least(top, bs);
+    let near = pick::min(bs, available);
+    let end = bs + pick::min(top, bs);
     let all = 2 * bs;
     let cap = Size::REF_CAP;
     run::read_and_repeat(plane, start, stride, 0, near, bs, edge);

@@ -15,8 +15,8 @@ fn clipped(x: i32, m: i32) -> i32
     requires { ⌜ inside (pos 4095) m ≡ true ⌝ }
     ensures { λ r. ⌜ r ≡ clip m x ⌝ }
 {
-    let y = pick::either(x < 0, 0, x);
-    pick::either(m < y, m, y)
+    let y = pick::select(x < 0, 0, x);
+    pick::select(m < y, m, y)
 }
 
 // A predicted sample with its difference.

@@ -22,14 +22,14 @@ pub fn monus(a: usize, b: usize) -> usize
 pub fn rows_above(w: Window) -> usize
     ensures { λ r. ⌜ r ≡ rowsAbove w ⌝ }
 {
-    pick::least(monus(w.above_lines, 1), monus(w.ref_height, 2))
+    pick::min(monus(w.above_lines, 1), monus(w.ref_height, 2))
 }
 
 // How many columns of the other rows are inside the left lines.
 pub fn few(w: Window) -> usize
     ensures { λ r. ⌜ r ≡ few w ⌝ }
 {
-    pick::least(monus(w.left_lines, 1), monus(w.ref_width, 2))
+    pick::min(monus(w.left_lines, 1), monus(w.ref_width, 2))
 }
 
 // How far before the centre, in entries, the direction's luma stands.

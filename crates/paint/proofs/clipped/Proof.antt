@@ -11,23 +11,23 @@ use Rattle.interp.proofs.Laws.{clip-steps}
 use Rattle.paint.proofs.clipped.Statement.{statement}
 use Rattle.paint.proofs.clipped.Tie as tie
 
-y-is : (c : tie.After-either) → c .either .result ≡ cond (ltZ (c .before .args .x) (pos 0)) (pos 0) (c .before .args .x)
-y-is c = simp (toZ-ofZ, c .before .fits .x) at (c .either .ensures)
+y-is : (c : tie.After-select) → c .select .result ≡ cond (ltZ (c .before .args .x) (pos 0)) (pos 0) (c .before .args .x)
+y-is c = simp (toZ-ofZ, c .before .fits .x) at (c .select .ensures)
 
-either-requires : tie.Need-either-requires
-either-requires c κs = search needs
+select-requires : tie.Need-select-requires
+select-requires c κs = search needs
 
-either-requires-2 : tie.Need-either-requires-2
-either-requires-2 c κs = search needs
+select-requires-2 : tie.Need-select-requires-2
+select-requires-2 c κs = search needs
 
 returns : tie.Need-returns
 returns c =
     let e = c .before in
     let s = e .before in
-    back w32 {z = c .either2 .result} (sfits-of (c .either2 .ok))
-    ∙ (simp (back w32 {z = e .either .result} (sfits-of (e .either .ok)), toZ-ofZ, s .fits .m) at (c .either2 .ensures))
+    back w32 {z = c .select2 .result} (sfits-of (c .select2 .ok))
+    ∙ (simp (back w32 {z = e .select .result} (sfits-of (e .select .ok)), toZ-ofZ, s .fits .m) at (c .select2 .ensures))
     ∙ (λ j. cond (ltZ (s .args .m) (y-is e j)) (s .args .m) (y-is e j))
     ∙ clip-steps 4095 (s .args .m) (s .args .x) (s .pre)
 
 pub clipped-spec : {M : Type 1} → statement M
-clipped-spec = tie.close (tie.spec either-requires either-requires-2 returns)
+clipped-spec = tie.close (tie.spec select-requires select-requires-2 returns)

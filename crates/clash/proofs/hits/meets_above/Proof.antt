@@ -22,11 +22,11 @@ sub-y c = let k = c .before .before in k .before .before .pre .1 .above (not-fal
 cast-b : tie.Need-cast-b
 cast-b c = search needs
 
-cast-least : tie.Need-cast-least
-cast-least c = search needs
+cast-min : tie.Need-cast-min
+cast-min c = search needs
 
-least-requires : tie.Need-least-requires
-least-requires c κs = search needs
+min-requires : tie.Need-min-requires
+min-requires c κs = search needs
 
 meet-requires : tie.Need-meet-requires
 meet-requires c κs = search needs
@@ -34,11 +34,11 @@ meet-requires c κs = search needs
 add-x : tie.Need-add-x
 add-x c = search needs
 
-cast-least-2 : tie.Need-cast-least-2
-cast-least-2 c = search needs
+cast-min-2 : tie.Need-cast-min-2
+cast-min-2 c = search needs
 
-least-requires-2 : tie.Need-least-requires-2
-least-requires-2 c κs = search needs
+min-requires-2 : tie.Need-min-requires-2
+min-requires-2 c κs = search needs
 
 meet-requires-2 : tie.Need-meet-requires-2
 meet-requires-2 c κs = search needs
@@ -49,8 +49,8 @@ returns-2 c =
     let k = m .before .before .before .before .before .before in
     let s = k .before .before .args .s in
     let on = not-false (s .«have_above») (k .if1 .left) in
-    let near = meet-on _ (s .«have_above») on _ _ _ _ _ _ (m .before .least .ensures) refl _ (m .meet .ensures) in
-    let far = meet-on _ (s .«have_above») on _ _ _ _ _ _ (c .before .least2 .ensures) refl _ (c .meet2 .ensures) in
+    let near = meet-on _ (s .«have_above») on _ _ _ _ _ _ (m .before .min .ensures) refl _ (m .meet .ensures) in
+    let far = meet-on _ (s .«have_above») on _ _ _ _ _ _ (c .before .min2 .ensures) refl _ (c .meet2 .ensures) in
     λ j. near j || far j
 
 pub meets-above-spec : {M : Type 1} → statement M
@@ -62,11 +62,11 @@ meets-above-spec =
     cast-y
     sub-y
     cast-b
-    cast-least
-    least-requires
+    cast-min
+    min-requires
     meet-requires
     add-x
-    cast-least-2
-    least-requires-2
+    cast-min-2
+    min-requires-2
     meet-requires-2
     returns-2)

@@ -4,48 +4,48 @@ use borrow.Author.Needs.{needs}
 use Rattle.clash.proofs.rect.meet.Statement.{statement}
 use Rattle.clash.proofs.rect.meet.Tie as tie
 
-most-requires : tie.Need-most-requires
-most-requires c κs = search needs
+max-requires : tie.Need-max-requires
+max-requires c κs = search needs
 
-add-least : tie.Need-add-least
-add-least c = search needs
+add-min : tie.Need-add-min
+add-min c = search needs
 
-add-least-2 : tie.Need-add-least-2
-add-least-2 c = search needs
+add-min-2 : tie.Need-add-min-2
+add-min-2 c = search needs
 
-least-requires : tie.Need-least-requires
-least-requires c κs = search needs
+min-requires : tie.Need-min-requires
+min-requires c κs = search needs
 
-most-requires-2 : tie.Need-most-requires-2
-most-requires-2 c κs = search needs
+max-requires-2 : tie.Need-max-requires-2
+max-requires-2 c κs = search needs
 
-add-least-3 : tie.Need-add-least-3
-add-least-3 c = search needs
+add-min-3 : tie.Need-add-min-3
+add-min-3 c = search needs
 
-add-least-4 : tie.Need-add-least-4
-add-least-4 c = search needs
+add-min-4 : tie.Need-add-min-4
+add-min-4 c = search needs
 
-least-requires-2 : tie.Need-least-requires-2
-least-requires-2 c κs = search needs
+min-requires-2 : tie.Need-min-requires-2
+min-requires-2 c κs = search needs
 
 returns : tie.Need-returns
 returns c =
-    meet-then _ _ _ _ (c .before .before .before .before .before .before .before .before .most .ensures) (c .before .before .before .before .before .least .ensures) _ _ (c .before .before .before .most2 .ensures) (c .least2 .ensures) (c .before .before .before .before .if1 .taken)
+    meet-then _ _ _ _ (c .before .before .before .before .before .before .before .before .max .ensures) (c .before .before .before .before .before .min .ensures) _ _ (c .before .before .before .max2 .ensures) (c .min2 .ensures) (c .before .before .before .before .if1 .taken)
 
 returns-2 : tie.Need-returns-2
-returns-2 c = meet-else _ _ _ _ (c .before .before .before .before .most .ensures) (c .before .least .ensures) (c .if1 .left)
+returns-2 c = meet-else _ _ _ _ (c .before .before .before .before .max .ensures) (c .before .min .ensures) (c .if1 .left)
 
 pub meet-spec : {M : Type 1} → statement M
 meet-spec =
     tie.close
     (tie.spec
-    most-requires
-    add-least
-    add-least-2
-    least-requires
-    most-requires-2
-    add-least-3
-    add-least-4
-    least-requires-2
+    max-requires
+    add-min
+    add-min-2
+    min-requires
+    max-requires-2
+    add-min-3
+    add-min-4
+    min-requires-2
     returns
     returns-2)

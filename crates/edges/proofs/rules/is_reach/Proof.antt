@@ -23,8 +23,8 @@ returns-3 c =
 add-result : tie.Need-add-result
 add-result c = search needs
 
-least-requires : tie.Need-least-requires
-least-requires c κs = search needs
+min-requires : tie.Need-min-requires
+min-requires c κs = search needs
 
 add-result-2 : tie.Need-add-result-2
 add-result-2 c = search needs
@@ -34,9 +34,9 @@ unfolding isReach
 returns-4 c =
     let e = c .before .before in
     let s = e .before .before in
-    simp (e .before .if1 .left, le-leb 1 (s .args .across) (omega arith), le-leb 1 (s .args .available) (omega arith), c .least .ensures)
+    simp (e .before .if1 .left, le-leb 1 (s .args .across) (omega arith), le-leb 1 (s .args .available) (omega arith), c .min .ensures)
 
 pub is-reach-spec : {M : Type 1} → statement M
 is-reach-spec =
     tie.close
-    (tie.spec returns returns-2 returns-3 add-result least-requires add-result-2 returns-4)
+    (tie.spec returns returns-2 returns-3 add-result min-requires add-result-2 returns-4)

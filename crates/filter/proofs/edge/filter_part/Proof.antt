@@ -7,11 +7,11 @@ use Rattle.filter.proofs.Pieces.{filter-places}
 use Rattle.filter.proofs.edge.filter_part.Statement.{statement}
 use Rattle.filter.proofs.edge.filter_part.Tie as tie
 
-sub-least : tie.Need-sub-least
-sub-least c = search needs
+sub-min : tie.Need-sub-min
+sub-min c = search needs
 
-least-requires : tie.Need-least-requires
-least-requires c κs = search needs
+min-requires : tie.Need-min-requires
+min-requires c κs = search needs
 
 mul-blur-by : tie.Need-mul-blur-by
 mul-blur-by c = search needs
@@ -41,7 +41,7 @@ blur-by-requires : tie.Need-blur-by-requires
 blur-by-requires c κs =
     let t = c .before .before in
     let s = t .before in
-    let top = t .least .result in
+    let top = t .min .result in
     let r = rest-blur (s .args .n) (s .args .pad .now) (s .pre .5) 3 (top - 0) (s .args .to .now) (omega arith) in
     (s .pre .0, s .pre .1, r .0, r .1)
 
@@ -76,7 +76,7 @@ copy-part-requires : tie.Need-copy-part-requires
 copy-part-requires c κs =
     let t = c .before .before .before .before .before .before in
     let s = t .before in
-    let top = t .least .result in
+    let top = t .min .result in
     rest-copy (s .args .n) (s .args .pad .now) (s .pre .5) (top + 5) (s .args .n - top) _ (omega arith)
 
 same-length : tie.Need-same-length
@@ -87,15 +87,15 @@ returns c =
     let b = c .before .before .before .before .before in
     let t = b .before .before .before in
     let s = t .before in
-    filter-places (s .args .s) (s .args .lim) (s .args .n) (s .args .pad .now) (s .args .to .now) (t .least .result) _ _
-    (s .pre .5) (s .pre .0) (s .pre .2) (s .pre .4) (t .least .ensures) (b .blur-by .ensures) (c .before .copy-part .ensures)
+    filter-places (s .args .s) (s .args .lim) (s .args .n) (s .args .pad .now) (s .args .to .now) (t .min .result) _ _
+    (s .pre .5) (s .pre .0) (s .pre .2) (s .pre .4) (t .min .ensures) (b .blur-by .ensures) (c .before .copy-part .ensures)
 
 pub filter-part-spec : {M : Type 1} → statement M
 filter-part-spec =
     tie.close
     (tie.spec
-    sub-least
-    least-requires
+    sub-min
+    min-requires
     mul-blur-by
     sub-blur-by
     part-blur-by-start

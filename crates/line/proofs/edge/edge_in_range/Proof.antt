@@ -16,8 +16,8 @@ use Rattle.line.proofs.Runs.{run-near, run-from, step-fits, start-fits,
 use Rattle.line.proofs.edge.edge_in_range.Statement.{statement}
 use Rattle.line.proofs.edge.edge_in_range.Tie as tie
 
-least-requires : tie.Need-least-requires
-least-requires c κs = search needs
+min-requires : tie.Need-min-requires
+min-requires c κs = search needs
 
 add-run-in-range : tie.Need-add-run-in-range
 add-run-in-range c = search needs
@@ -47,7 +47,7 @@ module _ (s : tie.Start) where
 returns : tie.Need-returns
 returns c =
     let s = c .before .before .before .before in
-    let l = c .before .before .least .ensures in
+    let l = c .before .before .min .ensures in
     sym (told s _ _ (s .args .bs + min (s .args .top) (s .args .bs)) _ (c .run-in-range .ensures) (ap (λ n. s .args .bs + n) l))
     ∙ sym (whole-test (s .pre .0) (omega arith) (s .args .plane .now) (isSample (s .args .m)))
 
@@ -80,14 +80,14 @@ returns-3 : tie.Need-returns-3
 returns-3 c =
     let k = c .before .before in
     let s = k .before .before .before .before in
-    sym (told s _ _ _ _ (c .run-in-range3 .ensures) (k .before .before .least .ensures))
+    sym (told s _ _ _ _ (c .run-in-range3 .ensures) (k .before .before .min .ensures))
     ∙ behind s true (near-told k ∙ not-false (k .run-in-range2 .result) (c .before .if2 .left))
 
 pub edge-in-range-spec : {M : Type 1} → statement M
 edge-in-range-spec =
     tie.close
     (tie.spec
-    least-requires
+    min-requires
     add-run-in-range
     run-in-range-requires
     returns

@@ -10,11 +10,11 @@ use Rattle.line.proofs.Tail.{edge-tail}
 use Rattle.line.proofs.edge.read_edge.Statement.{statement}
 use Rattle.line.proofs.edge.read_edge.Tie as tie
 
-least-requires : tie.Need-least-requires
-least-requires c κs = search needs
+min-requires : tie.Need-min-requires
+min-requires c κs = search needs
 
-least-requires-2 : tie.Need-least-requires-2
-least-requires-2 c κs = search needs
+min-requires-2 : tie.Need-min-requires-2
+min-requires-2 c κs = search needs
 
 add-end : tie.Need-add-end
 add-end c = search needs
@@ -71,8 +71,8 @@ pub read-edge-spec : {M : Type 1} → statement M
 read-edge-spec =
     tie.close
     (tie.spec
-    least-requires
-    least-requires-2
+    min-requires
+    min-requires-2
     add-end
     mul-all
     read-and-repeat-requires

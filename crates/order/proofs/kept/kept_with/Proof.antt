@@ -67,11 +67,11 @@ returns c =
     walked-found _ _ _ _ _ (s .pre .0) (l .loop .k) (l .loop .top) (l .loop .blocks) (l .loop .hulls) (c .before .before .before .before .before .before .before .loop-test .taken) (l .loop .inv .3) _
     (c .before .before .before .pass .ensures .searched) (c .if1 .taken)
 
-add-most : tie.Need-add-most Inv-loop μ-loop
-add-most c = omega (arith, c .before .before .before .before .before .before .shared-slice-known3 .given (c .before .before .before .before .before .before .before .before .loop .k))
+add-max : tie.Need-add-max Inv-loop μ-loop
+add-max c = omega (arith, c .before .before .before .before .before .before .shared-slice-known3 .given (c .before .before .before .before .before .before .before .before .loop .k))
 
-most-requires : tie.Need-most-requires Inv-loop μ-loop
-most-requires c κs = tt
+max-requires : tie.Need-max-requires Inv-loop μ-loop
+max-requires c κs = tt
 
 add-k : tie.Need-add-k Inv-loop μ-loop
 add-k c = omega arith
@@ -88,7 +88,7 @@ loop-again c =
       omega arith,
       ap length (p .blocks-are e) ∙ length-noted _ _ _ ∙ l .loop .inv .1,
       ap length (p .hulls-are e) ∙ length-noted _ _ _ ∙ l .loop .inv .2,
-      rw (c .most .ensures, p .blocks-are e, p .hulls-are e)
+      rw (c .max .ensures, p .blocks-are e, p .hulls-are e)
           (walked-more _ _ _ _ _ (s .pre .0) (l .loop .k) (l .loop .top) (l .loop .blocks) (l .loop .hulls) (c .before .before .before .before .before .before .before .before .loop-test .taken) (l .loop .inv .3) _
           (p .searched) e (l .loop .inv .1) (l .loop .inv .2)),
     )
@@ -118,8 +118,8 @@ kept-with-spec =
     same-length
     same-length-2
     returns
-    add-most
-    most-requires
+    add-max
+    max-requires
     add-k
     loop-less
     loop-again

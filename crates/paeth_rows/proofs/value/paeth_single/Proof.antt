@@ -35,43 +35,43 @@ nearness-requires-3 k κs =
     let c = k .before .before in
     simp (toZ-ofZ, c .fits .left, c .fits .top, c .fits .corner, x-fits c, y-fits c, sum-fits c) (omega (arith, sum-small c))
 
-either-requires : tie.Need-either-requires
-either-requires c κs = search needs
+select-requires : tie.Need-select-requires
+select-requires c κs = search needs
 
-either-requires-2 : tie.Need-either-requires-2
-either-requires-2 c κs = search needs
+select-requires-2 : tie.Need-select-requires-2
+select-requires-2 c κs = search needs
 
-either-requires-3 : tie.Need-either-requires-3
-either-requires-3 c κs = search needs
+select-requires-3 : tie.Need-select-requires-3
+select-requires-3 c κs = search needs
 
-other : (e : tie.After-either) → toZ w32 (ofZ w32 (e .either .result)) ≡ other-is (e .before .before .before .before)
+other : (e : tie.After-select) → toZ w32 (ofZ w32 (e .select .result)) ≡ other-is (e .before .before .before .before)
 other e =
     let k = e .before in
     let c = k .before .before .before in
-    toZ-ofZ {z = e .either .result} (record { sfits = e .either .ok })
-    ∙ simp (toZ-ofZ, c .fits .top, c .fits .corner, x-fits c, to-top (k .before), to-corner k, le-neg) at (e .either .ensures)
+    toZ-ofZ {z = e .select .result} (record { sfits = e .select .ok })
+    ∙ simp (toZ-ofZ, c .fits .top, c .fits .corner, x-fits c, to-top (k .before), to-corner k, le-neg) at (e .select .ensures)
 
-nearest : (e : tie.After-either2) → toZ w32 (ofZ w32 (e .either2 .result)) ≡ nearest-is (e .before .before .before .before .before)
+nearest : (e : tie.After-select2) → toZ w32 (ofZ w32 (e .select2 .result)) ≡ nearest-is (e .before .before .before .before .before)
 nearest e =
     let k = e .before .before in
     let c = k .before .before .before in
-    toZ-ofZ {z = e .either2 .result} (record { sfits = e .either2 .ok })
-    ∙ simp (toZ-ofZ, c .fits .left, c .fits .corner, y-fits c, to-left (k .before .before), to-corner k, le-neg, other (e .before)) at (e .either2 .ensures)
+    toZ-ofZ {z = e .select2 .result} (record { sfits = e .select2 .ok })
+    ∙ simp (toZ-ofZ, c .fits .left, c .fits .corner, y-fits c, to-left (k .before .before), to-corner k, le-neg, other (e .before)) at (e .select2 .ensures)
 
 -- the sum that is returned
-sum-is : (e : tie.After-either3) → let c = e .before .before .before .before .before .before in
-    c .args .corner +ℤ toZ w32 (ofZ w32 (e .either3 .result)) ≡ chosen (c .args .left) (c .args .top) (c .args .corner)
+sum-is : (e : tie.After-select3) → let c = e .before .before .before .before .before .before in
+    c .args .corner +ℤ toZ w32 (ofZ w32 (e .select3 .result)) ≡ chosen (c .args .left) (c .args .top) (c .args .corner)
 unfolding chosen
 sum-is e =
     let k = e .before .before .before in
     let c = k .before .before .before in
     ap (λ z. c .args .corner +ℤ z)
-    (toZ-ofZ {z = e .either3 .result} (record { sfits = e .either3 .ok })
-    ∙ simp (toZ-ofZ, to-left (k .before .before), to-top (k .before), le-neg, other (e .before .before), nearest (e .before)) at (e .either3 .ensures))
+    (toZ-ofZ {z = e .select3 .result} (record { sfits = e .select3 .ok })
+    ∙ simp (toZ-ofZ, to-left (k .before .before), to-top (k .before), le-neg, other (e .before .before), nearest (e .before)) at (e .select3 .ensures))
     ∙ from-corner (left-top c) (left-corner c) (top-corner c) (c .args .left) (c .args .top) (c .args .corner)
 
-fits : (e : tie.After-either3) → let c = e .before .before .before .before .before .before in
-    SFits w32 (c .args .corner +ℤ toZ w32 (ofZ w32 (e .either3 .result)))
+fits : (e : tie.After-select3) → let c = e .before .before .before .before .before .before in
+    SFits w32 (c .args .corner +ℤ toZ w32 (ofZ w32 (e .select3 .result)))
 fits e =
     let c = e .before .before .before .before .before .before in
     subst (SFits w32) (sym (sum-is e)) (sfits-abs w32 _ (omega (arith, chosen-small 4095 (c .args .left) (c .args .top) (c .args .corner) (c .pre .0) (c .pre .1) (c .pre .2))))
@@ -94,8 +94,8 @@ paeth-single-spec =
     sub-y
     add-nearness
     nearness-requires-3
-    either-requires
-    either-requires-2
-    either-requires-3
+    select-requires
+    select-requires-2
+    select-requires-3
     add-result
     returns)

@@ -1,7 +1,7 @@
--- `either` meets its contract. Assumes nothing.
+-- `select` meets its contract. Assumes nothing.
 use mir.Facts.{toZ-ofZ}
-use Rattle.pick.proofs.either.Statement.{statement}
-use Rattle.pick.proofs.either.Tie as tie
+use Rattle.pick.proofs.select.Statement.{statement}
+use Rattle.pick.proofs.select.Tie as tie
 
 returns : tie.Need-returns
 returns c =
@@ -15,5 +15,5 @@ returns-2 c =
     let t = c .if1 .left in
     simp (toZ-ofZ, s .fits .b, t)
 
-pub either-spec : {M : Type 1} → statement M
-either-spec = tie.close (tie.spec returns returns-2)
+pub select-spec : {M : Type 1} → statement M
+select-spec = tie.close (tie.spec returns returns-2)
