@@ -7,12 +7,12 @@ use native.Mathlib.Nat.{mul-le-mul-left}
 use native.Mathlib.Omega.{arith}
 use lib.Ieee.{Float}
 use lib.IntN.{ℤ, pos, natAbs}
-use Rattle.zint.specs.Range.{inside, Edge}
+use Rattle.signed.specs.Range.{inside, Edge}
 use Rattle.lists.specs.Fill.{filled}
 use Rattle.lists.specs.Block.{block}
-use Rattle.filter.specs.Filter.{edge, padded, filtered}
-use Rattle.filter.proofs.Filtered.{filtered-inside}
-use Rattle.filter.proofs.Ready.{ready-at, ready-inside}
+use Rattle.edge_filter.specs.Filter.{edge, padded, filtered}
+use Rattle.edge_filter.proofs.Filtered.{filtered-inside}
+use Rattle.edge_filter.proofs.Ready.{ready-at, ready-inside}
 use Rattle.setting.specs.Steps.{step}
 use Rattle.setting.proofs.Table.{step-low}
 use Rattle.zones.specs.Zones.{zone1, zone3}

@@ -4,8 +4,8 @@ use mathlib.Core.Path.{_≡_}
 use mathlib.Core.List.{List}
 use Prim.Native.Nat.{ℕ}
 use lib.IntN.{ℤ, pos, natAbs}
-use Rattle.zint.specs.Range.{inside, Edge}
-use Rattle.zint.proofs.Range.{inside-abs, inside-more, inside-pos}
+use Rattle.signed.specs.Range.{inside, Edge}
+use Rattle.signed.proofs.Range.{inside-abs, inside-more, inside-pos}
 
 module _ (m : ℤ) (h : inside (pos 4095) m ≡ true) where
   pub m-is : m ≡ pos (natAbs m)

@@ -6,11 +6,11 @@ use Prim.Native.Nat.{ℕ, _+_, _-_, _≤_, _<_}
 use native.Mathlib.Omega.{arith}
 use lib.Ieee.{Float}
 use lib.IntN.{ℤ, pos}
-use Rattle.zint.specs.Range.{inside, Edge}
+use Rattle.signed.specs.Range.{inside, Edge}
 use Rattle.lists.specs.Fill.{filled}
 use Rattle.lists.specs.Block.{block}
-use Rattle.filter.specs.Filter.{padded}
-use Rattle.filter.proofs.Ready.{ready-at, ready-inside}
+use Rattle.edge_filter.specs.Filter.{padded}
+use Rattle.edge_filter.proofs.Ready.{ready-at, ready-inside}
 use Rattle.setting.specs.Steps.{step}
 use Rattle.setting.specs.Setting.{strengthAbove, strengthLeft, limitAbove, limitLeft}
 use Rattle.setting.specs.declared.Setting.{Setting}

@@ -4,7 +4,7 @@ use Prim.Native.Nat.{ℕ, _+_, _-_}
 use mathlib.Core.List.{List}
 use lib.IntN.{ℤ, pos}
 use lib.ListN.{getD}
-use Rattle.filter.specs.Filter.{edge, filtered}
+use Rattle.edge_filter.specs.Filter.{edge, filtered}
 use Rattle.zones.specs.Zones.{zone1, zone2, zone3}
 use Rattle.setting.specs.Steps.{step}
 use Rattle.setting.specs.Setting.{strengthAbove, strengthLeft, limitAbove, limitLeft}

@@ -5,9 +5,9 @@ ghost use mathlib.Core.Bool.{true};
 ghost use Prim.Native.Nat.{_+_, _≤_, _<_};
 ghost use lib.IntN.{pos};
 ghost use lib.ListN.{length};
-ghost use Rattle.zint.specs.Range.{inside, Edge};
+ghost use Rattle.signed.specs.Range.{inside, Edge};
 ghost use Rattle.lists.specs.Fill.{filled};
-ghost use Rattle.filter.specs.Filter.{padded};
+ghost use Rattle.edge_filter.specs.Filter.{padded};
 ghost use Rattle.angled.specs.AtAngle.{aboveReady, leftReady};
 
 // n entries above.
@@ -27,7 +27,7 @@ pub fn above_list(
 {
     let s = set.strength_above(bs + bs);
     let lim = set.limit_above(n, bs);
-    filter::edge::ready_edge(corner, above, s, lim, n, size, pad, list);
+    edge_filter::edge::ready_edge(corner, above, s, lim, n, size, pad, list);
 }
 
 // n entries at the left.
@@ -47,5 +47,5 @@ pub fn left_list(
 {
     let s = set.strength_left(bs + bs);
     let lim = set.limit_left(n, bs);
-    filter::edge::ready_edge(corner, left, s, lim, n, size, pad, list);
+    edge_filter::edge::ready_edge(corner, left, s, lim, n, size, pad, list);
 }

@@ -7,7 +7,7 @@ ghost use mathlib.Core.Bool.{true};
 ghost use Prim.Native.Nat.{_+_, _*_, _≤_, _<_};
 ghost use lib.IntN.{pos, natAbs};
 ghost use lib.ListN.{length};
-ghost use Rattle.zint.specs.Range.{inside, Edge};
+ghost use Rattle.signed.specs.Range.{inside, Edge};
 ghost use Rattle.lists.specs.Block.{block};
 ghost use Rattle.zone_rows.specs.Listed.{Fours};
 ghost use Rattle.angled.specs.AtAngle.{z1At};

@@ -4,7 +4,7 @@ use mathlib.Core.Logic.{inl, inr}
 use mathlib.Core.Bool.{Bool, true, false, _&&_}
 use Prim.Native.Nat.{ℕ, _+_, _-_, _≤_, min}
 use native.Mathlib.Omega.{arith}
-use Rattle.zint.proofs.Range.{and-both}
+use Rattle.signed.proofs.Range.{and-both}
 use Rattle.edges.specs.declared.spec.IntraRefSpec.{IntraRefSpec}
 use Rattle.edges.specs.Placed.{Standing}
 use Rattle.reorder.specs.Rect.{Wide, In, InAny}

@@ -35,10 +35,10 @@ fn meets_above(a: Rect, s: IntraRefSpec) -> bool
     let x = s.x as usize;
     let y = s.y as usize - 1;
     let b = s.b as usize;
-    let w = pick::min(b, s.available_above as usize);
+    let w = minmax::min(b, s.available_above as usize);
     let near = rect::meet(a, Rect { x, y, w, h: 1 });
     let x = x + b;
-    let w = pick::min(s.top_right as usize, b);
+    let w = minmax::min(s.top_right as usize, b);
     let far = rect::meet(a, Rect { x, y, w, h: 1 });
     near | far
 }
@@ -54,10 +54,10 @@ fn meets_left(a: Rect, s: IntraRefSpec) -> bool
     let x = s.x as usize - 1;
     let y = s.y as usize;
     let b = s.b as usize;
-    let h = pick::min(b, s.available_left as usize);
+    let h = minmax::min(b, s.available_left as usize);
     let near = rect::meet(a, Rect { x, y, w: 1, h });
     let y = y + b;
-    let h = pick::min(s.bottom_left as usize, b);
+    let h = minmax::min(s.bottom_left as usize, b);
     let far = rect::meet(a, Rect { x, y, w: 1, h });
     near | far
 }

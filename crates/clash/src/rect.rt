@@ -16,8 +16,8 @@ pub fn meet(a: Rect, b: Rect) -> bool
     requires { ⌜ Small a × Small b ⌝ }
     ensures { λ r. ⌜ r ≡ meetB (rectOf a) (rectOf b) ⌝ }
 {
-    if pick::max(a.x, b.x) < pick::min(a.x + a.w, b.x + b.w) {
-        pick::max(a.y, b.y) < pick::min(a.y + a.h, b.y + b.h)
+    if minmax::max(a.x, b.x) < minmax::min(a.x + a.w, b.x + b.w) {
+        minmax::max(a.y, b.y) < minmax::min(a.y + a.h, b.y + b.h)
     } else {
         false
     }

@@ -6,8 +6,8 @@ use Prim.Native.Nat.{ℕ, _+_, _*_, _<_}
 use native.Mathlib.Omega.{arith}
 use lib.Dec.{ltb}
 use lib.IntN.{ℤ, pos}
-use Rattle.zint.specs.Range.{inside, Edge}
-use Rattle.filter.proofs.Filtered.{filtered-inside, one-of}
+use Rattle.signed.specs.Range.{inside, Edge}
+use Rattle.edge_filter.proofs.Filtered.{filtered-inside, one-of}
 use Rattle.setting.specs.Setting.{strengthAbove, strengthLeft, limitAbove, limitLeft}
 use Rattle.setting.specs.declared.Setting.{Setting}
 use Rattle.setting.proofs.Most.{above-most, left-most}

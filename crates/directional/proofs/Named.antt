@@ -7,7 +7,7 @@ use Rattle.numbers.specs.Dir.{isDir, isDelta}
 use Rattle.numbers.specs.Flag.{noStray}
 use Rattle.numbers.specs.Size.{isSize}
 use Rattle.numbers.proofs.Agree.{size-all}
-use Rattle.zint.proofs.Range.{and-both}
+use Rattle.signed.proofs.Range.{and-both}
 use Rattle.zone_rows.specs.Listed.{Fours}
 use Rattle.directional.specs.Words.{isNamed}
 

@@ -10,7 +10,7 @@ use Rattle.numbers.specs.declared.dir.Dir.{Dir}
 use Rattle.numbers.specs.declared.dir.FoundDir.{FoundDir}
 use Rattle.numbers.specs.declared.dir.FoundDir.the-variants.{Is, NoDir}
 use Rattle.numbers.specs.declared.flag.Flags.{Flags}
-use Rattle.calls.specs.Direct.{Predictor}
+use Rattle.direct_calls.specs.Direct.{Predictor}
 use Rattle.setting.specs.declared.Setting.{Setting}
 use Rattle.directional.specs.Directional.{directionalAt}
 

@@ -9,9 +9,9 @@ ghost use mathlib.Core.Bool.{true};
 ghost use Prim.Native.Nat.{_≤_};
 ghost use lib.IntN.{pos, natAbs};
 ghost use lib.ListN.{length};
-ghost use Rattle.zint.specs.Range.{inside};
+ghost use Rattle.signed.specs.Range.{inside};
 ghost use Rattle.lists.specs.Block.{block};
-ghost use Rattle.calls.specs.Given.{Given};
+ghost use Rattle.direct_calls.specs.Given.{Given};
 ghost use Rattle.directional.specs.Directional.{isDown, isAcross, directionalAt};
 
 // "Angle 90, or below 90 with above missing".

@@ -5,7 +5,7 @@ pub mod turned;
 pub mod words;
 
 use numbers::answer::Answer;
-ghost use Rattle.calls.specs.Direct.{PredictedBy};
+ghost use Rattle.direct_calls.specs.Direct.{PredictedBy};
 ghost use Rattle.directional.specs.Words.{isNamed, directed};
 
 // Done, with the block in out[..b * b], or a refusal, with nothing written. delta is the row's word, delta + 3; wide and high are max-width and
@@ -26,7 +26,7 @@ pub fn directional(
     ensures { λ r. ⌜ PredictedBy (isNamed direction delta flags) (directed d direction delta flags wide high) b d (now (above .entry)) (now (left .entry)) corner (now (out .entry)) (now (out .exit)) r ⌝ }
 {
     let named = words::is_named(direction, delta, flags);
-    let answer = calls::direct::direct(b, d, named, above, left, corner, out.len());
+    let answer = direct_calls::direct::direct(b, d, named, above, left, corner, out.len());
     if !answer.is_done() {
         return answer;
     }

@@ -13,7 +13,7 @@ ghost use lib.ListN.{length};
 ghost use Rattle.numbers.specs.Depth.{isDepth, most};
 ghost use Rattle.numbers.specs.Dir.{angleOf};
 ghost use Rattle.lists.specs.Block.{block};
-ghost use Rattle.calls.specs.Given.{Given};
+ghost use Rattle.direct_calls.specs.Given.{Given};
 ghost use Rattle.directional.specs.Words.{limitOf, settingOf, turnedBy};
 
 // "Max-width or max-height 0 stands for B."

@@ -8,7 +8,7 @@ ghost use mathlib.Core.Bool.{true};
 ghost use lib.ListN.{length};
 ghost use Rattle.numbers.specs.Depth.{isDepth, most};
 ghost use Rattle.lists.specs.Block.{block};
-ghost use Rattle.calls.specs.Given.{Given};
+ghost use Rattle.direct_calls.specs.Given.{Given};
 ghost use Rattle.directional.specs.Words.{isNamed, directed};
 
 // Refusal 3: whether the words name a direction.

@@ -8,9 +8,9 @@ use lib.Ieee.{Float}
 use lib.ListN.{length}
 use borrow.Author.Tests.{leb-true}
 use Rattle.numbers.specs.declared.answer.Answer.the-variants.{Done, ShortList}
-use Rattle.zint.proofs.Range.{and-both}
-use Rattle.ladder.specs.Ladder.{_else_}
-use Rattle.ladder.proofs.Ladder.{all-kept, kept-append}
+use Rattle.signed.proofs.Range.{and-both}
+use Rattle.refusals.specs.Ladder.{_else_}
+use Rattle.refusals.proofs.Ladder.{all-kept, kept-append}
 use Rattle.edges.specs.declared.spec.IntraRefSpec.{IntraRefSpec}
 use Rattle.edges.specs.Rules.{outputsLong, allRead, sizeRules, placeRules, readRules, refsRules, refsAnswer}
 use Rattle.edges.specs.Placed.{Placed}

@@ -3,7 +3,7 @@ use mathlib.Core.Path.{_≡_, refl}
 use mathlib.Core.Bool.{Bool, true, false}
 use Prim.Native.Nat.{ℕ, _+_, _-_}
 use lib.IntN.{pos, _+ℤ_, _-ℤ_}
-use Rattle.line.specs.Along.{along}
+use Rattle.edge_line.specs.Along.{along}
 use Rattle.edges.specs.declared.spec.IntraRefSpec.{IntraRefSpec}
 use Rattle.edges.specs.Behind.{place, number, aboveBehind, leftBehind, cornerBehind}
 

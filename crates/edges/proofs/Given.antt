@@ -9,8 +9,8 @@ use lib.Ieee.{Float}
 use lib.ListN.{length, getD}
 use Rattle.numbers.specs.Depth.{most}
 use Rattle.lists.proofs.Fill.{length-filled}
-use Rattle.calls.specs.Given.{Given}
-use Rattle.line.specs.Edge.{entryOf}
+use Rattle.direct_calls.specs.Given.{Given}
+use Rattle.edge_line.specs.Edge.{entryOf}
 use Rattle.edges.specs.declared.spec.IntraRefSpec.{IntraRefSpec}
 use Rattle.edges.specs.Behind.{aboveBehind, leftBehind}
 use Rattle.edges.specs.Rules.{allRead}

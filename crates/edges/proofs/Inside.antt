@@ -11,11 +11,11 @@ use lib.Ieee.{Float, nan}
 use lib.ListN.{length, getD}
 use borrow.Author.Tests.{leb-true, lt-ltb}
 use Rattle.numbers.specs.Depth.{isDepth, most}
-use Rattle.zint.specs.Range.{inside, Edge}
-use Rattle.zint.proofs.Parts.{same, sub}
-use Rattle.zint.proofs.Range.{and-both, pos-inside}
+use Rattle.signed.specs.Range.{inside, Edge}
+use Rattle.signed.proofs.Parts.{same, sub}
+use Rattle.signed.proofs.Range.{and-both, pos-inside}
 use Rattle.lists.proofs.Fill.{filled-at}
-use Rattle.line.specs.Edge.{entryOf, edgeOf}
+use Rattle.edge_line.specs.Edge.{entryOf, edgeOf}
 use Rattle.samples.proofs.Reading.{reading-most}
 use Rattle.edges.specs.declared.spec.IntraRefSpec.{IntraRefSpec}
 use Rattle.edges.specs.Behind.{Behind, place, number, aboveBehind, leftBehind, cornerBehind}

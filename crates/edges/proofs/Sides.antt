@@ -5,7 +5,7 @@ use Prim.Native.Nat.{ℕ, _+_, _-_, _*_, _<_}
 use native.Mathlib.Nat.{add-mul}
 use native.Mathlib.Omega.{arith}
 use lib.IntN.{ℤ, pos}
-use Rattle.line.specs.Along.{along}
+use Rattle.edge_line.specs.Along.{along}
 use Rattle.edges.specs.declared.spec.IntraRefSpec.{IntraRefSpec}
 use Rattle.edges.specs.declared.side.Spot.{Spot}
 use Rattle.edges.specs.declared.side.Spot.the-variants.{Sample, Number}

@@ -6,11 +6,11 @@ use Prim.Native.Nat.{ℕ, _*_, _<_}
 use lib.IntN.{ℤ, pos}
 use lib.Ieee.{Float}
 use Rattle.numbers.specs.Depth.{isDepth, most}
-use Rattle.zint.specs.Range.{inside}
-use Rattle.zint.proofs.Range.{and-both, pos-inside}
-use Rattle.line.specs.Every.{every}
-use Rattle.line.proofs.Every.{every-at}
-use Rattle.line.specs.Edge.{edgeOf}
+use Rattle.signed.specs.Range.{inside}
+use Rattle.signed.proofs.Range.{and-both, pos-inside}
+use Rattle.edge_line.specs.Every.{every}
+use Rattle.edge_line.proofs.Every.{every-at}
+use Rattle.edge_line.specs.Edge.{edgeOf}
 use Rattle.samples.proofs.Half.{depth-top}
 use Rattle.edges.specs.declared.spec.IntraRefSpec.{IntraRefSpec}
 use Rattle.edges.specs.declared.side.Spot.{Spot}

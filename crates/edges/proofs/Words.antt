@@ -6,8 +6,8 @@ use native.Mathlib.Omega.{arith}
 use lib.IntN.{pos, _+ℤ_, _-ℤ_}
 use mir.Syntax.{w32}
 use mir.Val.{SFits, toZ, ofZ}
-use Rattle.zint.proofs.Parts.{sfits, sub}
-use Rattle.zint.proofs.Bound.{back}
+use Rattle.signed.proofs.Parts.{sfits, sub}
+use Rattle.signed.proofs.Bound.{back}
 
 -- the row above the block's first sample
 pub up-fits : (W y x r : ℕ) → r ≡ y - 1 → y * W + x ≤ 16777216 → r * W + x ≤ 16777216

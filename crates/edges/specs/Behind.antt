@@ -2,7 +2,7 @@
 use mathlib.Core.Bool.{cond}
 use Prim.Native.Nat.{ℕ, _+_, _-_}
 use lib.IntN.{ℤ, pos, _+ℤ_, _-ℤ_}
-use Rattle.line.specs.Along.{along}
+use Rattle.edge_line.specs.Along.{along}
 use Rattle.edges.specs.declared.spec.IntraRefSpec.{IntraRefSpec}
 
 pub data Behind : Type 0 where

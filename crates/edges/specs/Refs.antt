@@ -6,8 +6,8 @@ use lib.Ieee.{Float}
 use lib.ListN.{length}
 use Rattle.numbers.specs.declared.answer.Answer.{Answer}
 use Rattle.lists.specs.Fill.{filled}
-use Rattle.ladder.specs.Promise.{lent, Promise}
-use Rattle.line.specs.Edge.{edgeOf}
+use Rattle.refusals.specs.Promise.{lent, Promise}
+use Rattle.edge_line.specs.Edge.{edgeOf}
 use Rattle.edges.specs.declared.spec.IntraRefSpec.{IntraRefSpec}
 use Rattle.edges.specs.Behind.{Behind, aboveBehind, leftBehind, cornerBehind}
 use Rattle.edges.specs.Side.{spotOf, spotValue}

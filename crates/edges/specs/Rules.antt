@@ -11,8 +11,8 @@ use Rattle.numbers.specs.Size.{isSize}
 use Rattle.numbers.specs.Depth.{isDepth, most}
 use Rattle.numbers.specs.declared.answer.Answer.{Answer}
 use Rattle.numbers.specs.declared.answer.Answer.the-variants.{BadPlane, BadSize, BadDepth, OutsidePlane, NoNeighbour, BadBase, ShortList, BadSample}
-use Rattle.ladder.specs.Ladder.{Rule, _else_, ladder}
-use Rattle.line.specs.Every.{every}
+use Rattle.refusals.specs.Ladder.{Rule, _else_, ladder}
+use Rattle.edge_line.specs.Every.{every}
 use Rattle.edges.specs.declared.spec.IntraRefSpec.{IntraRefSpec}
 use Rattle.edges.specs.Behind.{Behind, aboveBehind, leftBehind, cornerBehind}
 use Rattle.edges.specs.Side.{spotOf, spotInRange}

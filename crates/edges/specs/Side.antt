@@ -7,8 +7,8 @@ use Prim.Native.Nat.{ℕ, _+_, _-_, _*_, _≤_, _<_}
 use lib.IntN.{ℤ, pos, _+ℤ_, _-ℤ_}
 use lib.Ieee.{Float, nan}
 use lib.ListN.{getD}
-use Rattle.line.specs.Along.{along}
-use Rattle.line.specs.Run.{Line}
+use Rattle.edge_line.specs.Along.{along}
+use Rattle.edge_line.specs.Run.{Line}
 use Rattle.samples.specs.Sample.{isSample, reading, Readable}
 use Rattle.edges.specs.declared.spec.IntraRefSpec.{IntraRefSpec}
 use Rattle.edges.specs.declared.side.Spot.{Spot}

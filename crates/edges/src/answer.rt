@@ -12,7 +12,7 @@ ghost use mathlib.Core.Path.{_≡_};
 ghost use mathlib.Core.Bool.{true};
 ghost use lib.IntN.{pos};
 ghost use Rattle.numbers.specs.Depth.{isDepth, most};
-ghost use Rattle.ladder.specs.Ladder.{ladder};
+ghost use Rattle.refusals.specs.Ladder.{ladder};
 ghost use Rattle.edges.specs.Rules.{sizeRules, placeRules, refsAnswer};
 
 // M of the depth whose D is d.

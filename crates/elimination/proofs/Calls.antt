@@ -5,8 +5,8 @@ use lib.IntN.{ℤ, natAbs}
 use lib.Signed.{mag}
 use mir.Syntax.{w32}
 use mir.Val.{SFits}
-use Rattle.zint.proofs.Bound.{back}
-use Rattle.fixed.proofs.Thru.{thru}
+use Rattle.signed.proofs.Bound.{back}
+use Rattle.fixed_product.proofs.Thru.{thru}
 use Rattle.elimination.specs.Rows.{unit, reduced}
 
 pub record Got (m : ℕ) (d r : ℤ) : Type 0 where

@@ -6,10 +6,10 @@ use native.Mathlib.Omega.{arith}
 use lib.IntN.{ℤ, natAbs, _+ℤ_}
 use mir.Syntax.{w32}
 use mir.Val.{SFits}
-use Rattle.zint.proofs.Bound.{abs-add, sfits-abs, back-abs}
+use Rattle.signed.proofs.Bound.{abs-add, sfits-abs, back-abs}
 use Rattle.elimination.specs.declared.Sums.{Sums}
 use Rattle.elimination.specs.Elimination.{SumsIn}
-use Rattle.fixed.proofs.Thru.{thru}
+use Rattle.fixed_product.proofs.Thru.{thru}
 
 -- a number within m, where m is below 2 ^ 31, is read back as it was
 pub same : (z : ℤ) → natAbs z ≤ 2 ^ 22 + 32 + 2 ^ 30 → thru z ≡ z

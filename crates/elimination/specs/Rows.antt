@@ -1,7 +1,7 @@
 -- "Elimination and prediction are as in `gauss_elimination` and `predict_block`" (document 01, Colour parameters): the steps of elimination on a row.
 use Prim.Native.Nat.{ℕ, _≤_, max}
 use lib.IntN.{ℤ, natAbs, _-ℤ_}
-use Rattle.fixed.specs.Product.{ilog2, mulFixed}
+use Rattle.fixed_product.specs.Product.{ilog2, mulFixed}
 use Rattle.reciprocal.specs.Division.{scaleOf}
 use Rattle.elimination.specs.declared.rows.Pair.{Pair}
 use Rattle.elimination.specs.declared.rows.Row.{Row}

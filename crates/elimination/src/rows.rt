@@ -1,11 +1,11 @@
 // Rows of the system of three unknowns, and the two steps of elimination on them: a row divided by its pivot, and a row less a multiple of another
 // (document 01, Colour parameters).
-use fixed::product;
+use fixed_product::product;
 use reciprocal::Reciprocal;
 ghost use mathlib.Core.Path.{_≡_};
 ghost use Prim.Native.Nat.{_+_, _≤_, _^_};
 ghost use lib.IntN.{natAbs};
-ghost use Rattle.fixed.specs.Product.{ilog2};
+ghost use Rattle.fixed_product.specs.Product.{ilog2};
 ghost use Rattle.reciprocal.specs.Division.{scaleOf};
 ghost use Rattle.elimination.specs.Rows.{pivot, unit, reduced, unitRow, reducedRow, unitPair, reducedPair, RowIn, PairIn};
 

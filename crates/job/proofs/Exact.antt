@@ -4,8 +4,8 @@ use mathlib.Core.Logic.{_↔_, inl, inr, ⊎-elim}
 use mathlib.Core.Bool.{Bool, true, false, _&&_, false≢true}
 use Prim.Native.Nat.{ℕ, _+_, _-_, _≤_, min}
 use native.Mathlib.Omega.{arith}
-use Rattle.zint.proofs.Range.{and-both}
-use Rattle.line.proofs.Every.{and-of}
+use Rattle.signed.proofs.Range.{and-both}
+use Rattle.edge_line.proofs.Every.{and-of}
 use Rattle.edges.specs.declared.spec.IntraRefSpec.{IntraRefSpec}
 use Rattle.edges.specs.Placed.{Standing}
 use Rattle.reorder.specs.Rect.{InAny, AllWide}

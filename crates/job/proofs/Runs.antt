@@ -4,10 +4,10 @@ use mathlib.Core.Logic.{_⊎_, inl, inr}
 use mathlib.Core.Bool.{true, _&&_}
 use Prim.Native.Nat.{ℕ, _+_, _-_, _*_, _≤_, _<_, min}
 use native.Mathlib.Omega.{arith}
-use Rattle.zint.proofs.Range.{and-both}
-use Rattle.line.specs.Along.{along}
-use Rattle.line.proofs.Along.{along-here, along-far, along-in}
-use Rattle.line.proofs.Every.{and-of}
+use Rattle.signed.proofs.Range.{and-both}
+use Rattle.edge_line.specs.Along.{along}
+use Rattle.edge_line.proofs.Along.{along-here, along-far, along-in}
+use Rattle.edge_line.proofs.Every.{and-of}
 use Rattle.edges.specs.Behind.{place}
 use Rattle.edges.specs.declared.spec.IntraRefSpec.{IntraRefSpec}
 use Rattle.edges.proofs.Behind.{neighbours, above-there, above-by-left, above-by-base, left-there, left-by-above, left-by-base}

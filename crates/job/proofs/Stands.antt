@@ -6,8 +6,8 @@ use Prim.Native.Nat.{ℕ}
 use lib.Ieee.{Float}
 use Rattle.numbers.specs.Answer.{isDone}
 use Rattle.numbers.specs.declared.answer.Answer.the-variants.{BadMode, NoDifferences}
-use Rattle.ladder.specs.Ladder.{_else_, ladder}
-use Rattle.ladder.proofs.Ladder.{all-of, kept-append, ladder-append}
+use Rattle.refusals.specs.Ladder.{_else_, ladder}
+use Rattle.refusals.proofs.Ladder.{all-of, kept-append, ladder-append}
 use Rattle.edges.specs.Rules.{sizeRules, placeRules, readRules}
 use Rattle.edges.specs.Placed.{Standing}
 use Rattle.edges.proofs.Placed as edges

@@ -8,8 +8,8 @@ use native.Mathlib.Omega.{arith}
 use lib.Dec.{T, leb, leb→le}
 use lib.ListN.{getD}
 use lib.IntN.{ℤ, pos, natAbs}
-use Rattle.zint.specs.Range.{inside}
-use Rattle.zint.proofs.Range.{inside-abs, inside-pos, pos-inside}
+use Rattle.signed.specs.Range.{inside}
+use Rattle.signed.proofs.Range.{inside-abs, inside-pos, pos-inside}
 use Rattle.lists.proofs.Table.{both, both-left, both-right, at}
 use Rattle.kernels.specs.Kernel.{taps5, kernel, kernels, Five}
 

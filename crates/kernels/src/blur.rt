@@ -5,7 +5,7 @@ ghost use mathlib.Core.List.{[]};
 ghost use Prim.Native.Nat.{_<_, _≤_, _+_, _-_};
 ghost use lib.ListN.{length, getD};
 ghost use lib.IntN.{pos};
-ghost use Rattle.zint.specs.Range.{Edge};
+ghost use Rattle.signed.specs.Range.{Edge};
 ghost use Rattle.lists.specs.Fill.{tab};
 ghost use Rattle.kernels.specs.Kernel.{kernels as kernelsOf, kernel, five};
 

@@ -3,7 +3,7 @@ ghost use mathlib.Core.Path.{_≡_};
 ghost use Prim.Native.Nat.{_≤_, _+_};
 ghost use lib.ListN.{length, getD};
 ghost use lib.IntN.{pos, natAbs};
-ghost use Rattle.zint.specs.Range.{Edge};
+ghost use Rattle.signed.specs.Range.{Edge};
 ghost use Rattle.lists.specs.Fill.{tab};
 ghost use Rattle.kernels.specs.Kernel.{taps5, five, Five};
 

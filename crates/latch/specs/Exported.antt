@@ -8,16 +8,16 @@ use lib.Dec.{leb}
 use lib.ListN.{length}
 use Rattle.numbers.specs.Answer.{answerNumber}
 use Rattle.lists.specs.Block.{block}
-use Rattle.ladder.specs.Promise.{lent, Promise}
+use Rattle.refusals.specs.Promise.{lent, Promise}
 use Rattle.edges.specs.Refs.{Lists, answerFor, refsOf}
 use Rattle.edges.specs.declared.spec.IntraRefSpec.{IntraRefSpec}
-use Rattle.calls.specs.Direct.{Predictor, directAnswer}
-use Rattle.sums.specs.declared.window.Window.{Window}
-use Rattle.derive.specs.Rules.{deriveAnswer}
-use Rattle.derive.specs.Derived.{listParams, written}
-use Rattle.predict.specs.Predicted.{predictedBlock}
-use Rattle.predict_rules.specs.Rules.{predictAnswer}
-use Rattle.predict_rules.specs.declared.block.Block.{Block}
+use Rattle.direct_calls.specs.Direct.{Predictor, directAnswer}
+use Rattle.colour_sums.specs.declared.window.Window.{Window}
+use Rattle.colour_params.specs.Rules.{deriveAnswer}
+use Rattle.colour_params.specs.Derived.{listParams, written}
+use Rattle.colour_block.specs.Predicted.{predictedBlock}
+use Rattle.colour_rules.specs.Rules.{predictAnswer}
+use Rattle.colour_rules.specs.declared.block.Block.{Block}
 
 -- a predictor's call; named says that its mode's words name a mode
 abbrev pub PredictedByC : Bool → Predictor → ℕ → ℕ → List ℤ → List ℤ → ℤ → List Float → List Float → ℕ → Type 0

@@ -5,8 +5,8 @@ use lib.IntN.{ℤ}
 use lib.Ieee.{Float}
 use lib.ListN.{length}
 use Rattle.numbers.specs.Answer.{answerNumber}
-use Rattle.ladder.specs.Promise.{lent, Promise}
-use Rattle.single.specs.Single.{singleAnswer, singleDone}
+use Rattle.refusals.specs.Promise.{lent, Promise}
+use Rattle.single_job.specs.Single.{singleAnswer, singleDone}
 use Rattle.plan.specs.Run.{memory, inOrder, planOrder, answerFor}
 
 -- `run_job`

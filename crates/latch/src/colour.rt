@@ -1,9 +1,9 @@
 // The colour calls (document 01, Colour parameters).
-use sums::window::Window;
-ghost use Rattle.predict.specs.Predicted.{blockOf};
+use colour_sums::window::Window;
+ghost use Rattle.colour_block.specs.Predicted.{blockOf};
 ghost use Rattle.latch.specs.Exported.{window, DerivedC, PredictedBlockC};
 
-// `derive::derive_into`, by its answer's number.
+// `colour_params::derive_into`, by its answer's number.
 #[no_mangle]
 pub extern "C" fn latch_derive_params(
     luma: &[i32],
@@ -24,10 +24,10 @@ pub extern "C" fn latch_derive_params(
         above_lines,
         left_lines,
     };
-    derive::derive_into(luma, chroma, w, direction, d, params).number()
+    colour_params::derive_into(luma, chroma, w, direction, d, params).number()
 }
 
-// `predict::predict_block`, by its answer's number.
+// `colour_block::predict_block`, by its answer's number.
 #[no_mangle]
 pub extern "C" fn latch_predict_block(
     luma: &[i32],
@@ -54,7 +54,7 @@ pub extern "C" fn latch_predict_block(
         above_lines,
         left_lines,
     };
-    predict::predict_block(
+    colour_block::predict_block(
         luma,
         w,
         width,

@@ -1,7 +1,7 @@
 // The calls on jobs: a single one, and a plan's in an order (document 01, Refusal numbers, in order of checking).
 ghost use Rattle.latch.specs.Jobs.{JobDoneC, RanC};
 
-// `single::run_job`, by its answer's number.
+// `single_job::run_job`, by its answer's number.
 #[no_mangle]
 pub extern "C" fn latch_run_job(
     plane: &mut [f32],
@@ -12,7 +12,7 @@ pub extern "C" fn latch_run_job(
 ) -> u32
     ensures { λ r. ⌜ JobDoneC width height (now (differences .entry)) (now (row .entry)) (now (plane .entry)) (now (plane .exit)) r ⌝ }
 {
-    single::run_job(plane, width, height, row, differences).number()
+    single_job::run_job(plane, width, height, row, differences).number()
 }
 
 // `plan::run`, by its answer's number.

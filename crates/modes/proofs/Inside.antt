@@ -9,8 +9,8 @@ use Rattle.numbers.specs.Depth.{most}
 use Rattle.numbers.specs.Dir.{angleOf}
 use Rattle.numbers.specs.declared.mode.Mode.{Mode}
 use Rattle.numbers.specs.declared.mode.Mode.the-variants.{Paeth, Smooth, SmoothV, SmoothH, Directional}
-use Rattle.zint.specs.Range.{inside}
-use Rattle.calls.specs.Given.{Given}
+use Rattle.signed.specs.Range.{inside}
+use Rattle.direct_calls.specs.Given.{Given}
 use Rattle.directional.specs.Words.{settingOf}
 use Rattle.directional.proofs.Inside.{directional-inside}
 use Rattle.paeth.proofs.Laws.{paeth-inside}

@@ -17,9 +17,9 @@ use Rattle.numbers.specs.declared.mode.Mode.the-variants.{Directional}
 use Rattle.numbers.specs.declared.word.Word.the-variants.{ModeWord, DirectionWord, DeltaWord, FlagWord}
 use Rattle.numbers.proofs.Angle.{delta-small}
 use Rattle.lists.specs.Block.{block}
-use Rattle.calls.specs.Given.{Given}
-use Rattle.calls.proofs.Accepted.{depth-most}
-use Rattle.calls.proofs.Given.{given-more}
+use Rattle.direct_calls.specs.Given.{Given}
+use Rattle.direct_calls.proofs.Accepted.{depth-most}
+use Rattle.direct_calls.proofs.Given.{given-more}
 use Rattle.smooth.proofs.Ready.{no-corner}
 use Rattle.job.specs.Row.{Row, word}
 use Rattle.numbers.specs.Mode.{directedMode, namedMode}

@@ -1,7 +1,7 @@
 -- The predictor of a job's mode (document 01, Ranges and numbers that name things).
 use Rattle.numbers.specs.declared.mode.Mode.{Mode}
 use Rattle.numbers.specs.declared.mode.Mode.the-variants.{Paeth, Smooth, SmoothV, SmoothH, Directional}
-use Rattle.calls.specs.Direct.{Predictor}
+use Rattle.direct_calls.specs.Direct.{Predictor}
 use Rattle.paeth.specs.Paeth.{paethAt}
 use Rattle.smooth.specs.Smooth.{smoothAt, smoothVAt, smoothHAt}
 use Rattle.directional.specs.Words.{turnedBy}

@@ -9,7 +9,7 @@ use Rattle.numbers.specs.Depth.{isDepth, most}
 use Rattle.numbers.specs.declared.mode.Mode.{Mode}
 use Rattle.numbers.specs.declared.mode.Mode.the-variants.{Paeth, Smooth, SmoothV, SmoothH, Directional}
 use Rattle.lists.specs.Block.{block}
-use Rattle.calls.specs.Given.{Given}
+use Rattle.direct_calls.specs.Given.{Given}
 use Rattle.job.specs.declared.job.Job.{Job}
 use Rattle.modes.specs.Predictor.{predictorOf}
 

@@ -7,8 +7,8 @@ use Prim.Native.Nat.{ℕ, _≤_}
 use native.Mathlib.Omega.{arith}
 use borrow.Author.Tests.{leb-true}
 use lib.IntN.{ℤ, pos, natAbs, _*ℤ_}
-use Rattle.zint.proofs.Parts.{up, dn, same, add, sub, abs, one}
-use Rattle.zint.proofs.Bound.{abs-times}
+use Rattle.signed.proofs.Parts.{up, dn, same, add, sub, abs, one}
+use Rattle.signed.proofs.Bound.{abs-times}
 use Rattle.numbers.specs.Dir.{degreesOf, angleOf, isDelta, deltaOf}
 use Rattle.numbers.specs.declared.dir.Dir.{Dir}
 use Rattle.numbers.specs.declared.dir.Dir.the-variants.{Vertical, Horizontal, D45, D135, D113, D157, D203, D67}

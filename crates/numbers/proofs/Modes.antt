@@ -7,7 +7,7 @@ use native.Mathlib.Omega.{arith}
 use lib.Dec.{eqb, leb}
 use lib.IntN.{ℤ, pos, natAbs, _+ℤ_, _-ℤ_}
 use borrow.Author.Tests.{eqb-true, le-leb}
-use Rattle.zint.proofs.Parts.{up, dn, same, add, sub, abs, one}
+use Rattle.signed.proofs.Parts.{up, dn, same, add, sub, abs, one}
 use Rattle.numbers.specs.Dir.{dirNumber, dirOf, isDelta, deltaOf}
 use Rattle.numbers.specs.Mode.{modeNumber, directionMode, directedMode, namedMode, StandFor, DeltaInRange}
 use Rattle.numbers.specs.declared.dir.Dir.{Dir}

@@ -6,9 +6,9 @@ use Prim.Native.Nat.{ℕ, _*_}
 use native.Mathlib.Omega.{arith}
 use lib.ListN.{length}
 use Rattle.reorder.specs.Check.{onceB}
-use Rattle.once.specs.PlanOrder.{isPlanOrder}
+use Rattle.each_once.specs.PlanOrder.{isPlanOrder}
 use Rattle.order.specs.Rules.{jobsIn, isOnce, isKept}
-use Rattle.once.proofs.InPlace.{own-once, own-kept}
+use Rattle.each_once.proofs.InPlace.{own-once, own-kept}
 
 module _ (plan order : List ℕ) (whole : length plan ≡ 16 * length order) where
   pub jobs-in : jobsIn plan ≡ length order

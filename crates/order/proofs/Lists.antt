@@ -11,7 +11,7 @@ use lib.IntN.{ℤ, pos}
 use lib.ListN.{length, getD, set, replicate, length-set}
 use lib.Seq.{getD-set-same, getD-set-other}
 use borrow.Author.Tests.{ltb-true, lt-ltb, le-ltb}
-use Rattle.zint.proofs.Range.{and-both}
+use Rattle.signed.proofs.Range.{and-both}
 use Rattle.reorder.specs.Rect.{Rect, meetB}
 use Rattle.order.specs.Sides.{sidesOf, boundsAt, overlap, met, anyMet, noted}
 use Rattle.order.specs.declared.sides.Sides.{Sides}

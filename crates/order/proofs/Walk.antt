@@ -15,7 +15,7 @@ use Rattle.job.specs.Rects.{clashOf}
 use Rattle.order.specs.Rules.{isKept}
 use Rattle.order.specs.Sides.{sidesOf, blockSides, hullSides, boundsAt}
 use Rattle.order.specs.Window.{Walk}
-use Rattle.once.proofs.Seen.{all-same}
+use Rattle.each_once.proofs.Seen.{all-same}
 use Rattle.order.proofs.Pairs.{kept-true}
 
 abbrev pub nothing : Rect

@@ -23,7 +23,7 @@ fn one(there: bool) -> usize
 fn past(there: bool, more: usize, b: usize) -> usize
     ensures { λ r. ⌜ r ≡ past there more b ⌝ }
 {
-    if there { pick::min(more, b) } else { 0 }
+    if there { minmax::min(more, b) } else { 0 }
 }
 
 // The hull.

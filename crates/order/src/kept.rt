@@ -59,7 +59,7 @@ fn kept_with(
         if pass(width, height, n, plan, i, top, blocks, hulls) {
             return false;
         }
-        top = pick::max(top, i + 1);
+        top = minmax::max(top, i + 1);
         k += 1;
     }
     true

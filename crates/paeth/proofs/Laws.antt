@@ -4,8 +4,8 @@ use mathlib.Core.Path.{_≡_, ap}
 use Prim.Native.Nat.{ℕ}
 use native.Mathlib.Omega.{arith}
 use lib.IntN.{ℤ, pos, natAbs, _+ℤ_, _-ℤ_}
-use Rattle.zint.specs.Range.{inside}
-use Rattle.zint.proofs.Parts.{same, add, sub}
+use Rattle.signed.specs.Range.{inside}
+use Rattle.signed.proofs.Parts.{same, add, sub}
 use Rattle.paeth_rows.specs.Chosen.{chosen}
 use Rattle.paeth_rows.proofs.Laws.{one-of}
 use Rattle.paeth.specs.Paeth.{dist, paeth}

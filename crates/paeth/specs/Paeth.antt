@@ -4,7 +4,7 @@ use mathlib.Core.Bool.{cond, _&&_}
 use lib.Dec.{leb}
 use lib.ListN.{getD}
 use lib.IntN.{ℤ, pos, natAbs, _+ℤ_, _-ℤ_}
-use Rattle.calls.specs.Direct.{Predictor}
+use Rattle.direct_calls.specs.Direct.{Predictor}
 
 -- |x - y|
 abbrev pub dist : ℤ → ℤ → ℕ

@@ -3,7 +3,7 @@ use paeth_rows::row;
 ghost use mathlib.Core.Path.{_≡_};
 ghost use lib.ListN.{length};
 ghost use Rattle.lists.specs.Block.{block};
-ghost use Rattle.calls.specs.Given.{Given};
+ghost use Rattle.direct_calls.specs.Given.{Given};
 ghost use Rattle.paeth.specs.Paeth.{paethAt};
 
 // A block, in out[..bs * bs].

@@ -2,14 +2,14 @@
 pub mod block;
 
 use numbers::answer::Answer;
-ghost use Rattle.calls.specs.Direct.{Predicted};
+ghost use Rattle.direct_calls.specs.Direct.{Predicted};
 ghost use Rattle.paeth.specs.Paeth.{paethAt};
 
 // Done, with the block in out[..b * b], or a refusal, with nothing written.
 pub fn paeth(b: u16, d: u16, above: &[i32], left: &[i32], corner: i32, out: &mut [f32]) -> Answer
     ensures { λ r. ⌜ Predicted paethAt b d (now (above .entry)) (now (left .entry)) corner (now (out .entry)) (now (out .exit)) r ⌝ }
 {
-    let answer = calls::direct::direct(b, d, true, above, left, corner, out.len());
+    let answer = direct_calls::direct::direct(b, d, true, above, left, corner, out.len());
     if !answer.is_done() {
         return answer;
     }

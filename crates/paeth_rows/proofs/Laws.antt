@@ -5,7 +5,7 @@ use Prim.Native.Nat.{ℕ, _≤_}
 use native.Mathlib.Omega.{arith}
 use lib.Dec.{leb}
 use lib.IntN.{ℤ, pos, natAbs, _+ℤ_, _-ℤ_}
-use Rattle.zint.proofs.Parts.{same, add, sub}
+use Rattle.signed.proofs.Parts.{same, add, sub}
 use Rattle.paeth_rows.specs.Chosen.{by, chosen}
 
 -- what holds of the three holds of the one that is chosen

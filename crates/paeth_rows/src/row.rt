@@ -4,7 +4,7 @@ ghost use mathlib.Core.Path.{_≡_};
 ghost use Prim.Native.Nat.{_≤_};
 ghost use lib.IntN.{pos, natAbs};
 ghost use lib.ListN.{length, getD};
-ghost use Rattle.zint.specs.Range.{Edge};
+ghost use Rattle.signed.specs.Range.{Edge};
 ghost use Rattle.lists.specs.Fill.{tab};
 ghost use Rattle.lists.specs.Block.{sample};
 ghost use Rattle.paeth_rows.specs.Chosen.{chosen};

@@ -23,9 +23,9 @@ fn paeth_single(left: i32, top: i32, corner: i32) -> i32
     let x = top - corner;
     let y = left - corner;
     let to_corner = nearness(x + y, 0);
-    let other = pick::select(to_top >= to_corner, x, 0);
-    let nearest = pick::select(to_left >= to_corner, y, other);
-    corner + pick::select(to_left >= to_top, nearest, other)
+    let other = minmax::select(to_top >= to_corner, x, 0);
+    let nearest = minmax::select(to_left >= to_corner, y, other);
+    corner + minmax::select(to_left >= to_top, nearest, other)
 }
 
 // The same as a sample.

@@ -5,7 +5,7 @@ use lib.Dec.{T}
 use lib.IntN.{pos}
 use lib.Ieee.{Float, binary32, toSigned, inSigned}
 use lib.Ieee.Back.{positive-back}
-use Rattle.zint.proofs.Bound.{exact}
+use Rattle.signed.proofs.Bound.{exact}
 use Rattle.paint.specs.Block.{Whole}
 
 -- a whole number of some depth is cast to an integer and is itself

@@ -9,9 +9,9 @@ use lib.Dec.{leb, ltb}
 use lib.Ieee.{Float, nan}
 use lib.ListN.{length, getD, List·getD-eq-default}
 use borrow.Author.Tests.{leb-true, ltb-true}
-use Rattle.zint.proofs.Range.{and-both}
+use Rattle.signed.proofs.Range.{and-both}
 use Rattle.lists.proofs.Fill.{length-tab, tab-at, tab-same}
-use Rattle.line.proofs.Split.{below-or}
+use Rattle.edge_line.proofs.Split.{below-or}
 use Rattle.reorder.specs.Rect.{Rect, Wide, In, inB}
 use Rattle.reorder.proofs.Test.{fails}
 use Rattle.reorder.proofs.Rect.{in-decides}

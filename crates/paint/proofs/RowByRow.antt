@@ -10,7 +10,7 @@ use lib.Ieee.{Float, nan}
 use lib.ListN.{length, getD, take, drop, length-append, length-take, length-drop, List·getD-append}
 use lib.Seq.{getD-take, getD-drop, getD-append-add, ext-getD}
 use borrow.Rule.Slice.PartMut.{putMid}
-use Rattle.line.proofs.Split.{below-or}
+use Rattle.edge_line.proofs.Split.{below-or}
 use Rattle.reorder.specs.Rect.{Rect, In}
 use Rattle.reorder.proofs.Test.{decided}
 use Rattle.reorder.proofs.Rect.{in-decides}

@@ -4,9 +4,9 @@ ghost use mathlib.Core.Bool.{true};
 ghost use Prim.Native.Nat.{_+_, _*_, _≤_};
 ghost use lib.IntN.{pos};
 ghost use lib.ListN.{length};
-ghost use Rattle.zint.specs.Range.{inside};
+ghost use Rattle.signed.specs.Range.{inside};
 ghost use Rattle.lists.specs.Fill.{tab};
-ghost use Rattle.interp.specs.Interp.{clip};
+ghost use Rattle.interpolation.specs.Interp.{clip};
 ghost use Rattle.paint.specs.Block.{Whole, Wholes, added, addedAt, Room};
 ghost use Rattle.paint.specs.Painted.{painted};
 
@@ -15,8 +15,8 @@ fn clipped(x: i32, m: i32) -> i32
     requires { ⌜ inside (pos 4095) m ≡ true ⌝ }
     ensures { λ r. ⌜ r ≡ clip m x ⌝ }
 {
-    let y = pick::select(x < 0, 0, x);
-    pick::select(m < y, m, y)
+    let y = minmax::select(x < 0, 0, x);
+    minmax::select(m < y, m, y)
 }
 
 // A predicted sample with its difference.

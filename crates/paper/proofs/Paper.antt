@@ -4,19 +4,19 @@ use lib.Count.{trailingZeros, leadingZeros}
 use lib.Ieee.{ofBits, add, toUnsigned}
 use Rattle.lists.specs.Fill.{tab}
 use Rattle.samples.specs.Sample.{reading}
-use Rattle.line.specs.Along.{along}
+use Rattle.edge_line.specs.Along.{along}
 use Rattle.edges.specs.Behind.{aboveBehind, leftBehind, cornerBehind}
 use Rattle.paeth.specs.Paeth.{paeth}
 use Rattle.smooth_weights.specs.Weights.{log2, scale, weight}
 use Rattle.smooth.specs.Smooth.{blend}
-use Rattle.interp.specs.Interp.{clip, taps2, between}
-use Rattle.filter.specs.Filter.{edge, filtered}
+use Rattle.interpolation.specs.Interp.{clip, taps2, between}
+use Rattle.edge_filter.specs.Filter.{edge, filtered}
 use Rattle.setting.specs.Strength.{strength}
 use Rattle.setting.specs.Setting.{strengthAbove, strengthLeft}
 use Rattle.setting.specs.Corner.{cornerOf}
 use Rattle.zones.specs.Zones.{along as alongEdge, zone2}
 use Rattle.directional.specs.Directional.{isDown, isAcross}
-use Rattle.fixed.specs.Product.{ilog2, digits, over, narrow, rounded, mulFixed}
+use Rattle.fixed_product.specs.Product.{ilog2, digits, over, narrow, rounded, mulFixed}
 use Rattle.reciprocal.specs.Division.{curve, moved, fraction, scaleOf}
 use Rattle.paper.specs.Paper.{given, paper}
 

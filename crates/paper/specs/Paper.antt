@@ -11,7 +11,7 @@ use Rattle.edges.specs.declared.spec.IntraRefSpec.{IntraRefSpec}
 use Rattle.paeth.specs.Paeth.{paeth}
 use Rattle.smooth.specs.Smooth.{smoothVAt}
 use Rattle.directional.specs.Directional.{directionalAt}
-use Rattle.fixed.specs.Product.{ilog2, mulFixed}
+use Rattle.fixed_product.specs.Product.{ilog2, mulFixed}
 use Rattle.reciprocal.specs.Division.{scaleOf}
 
 -- smooth_v at B 4, where all entries above are t and all at the left e: the sample at row r and column c

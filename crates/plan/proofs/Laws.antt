@@ -12,7 +12,7 @@ use Rattle.numbers.specs.Answer.{answerNumber}
 use Rattle.numbers.specs.declared.answer.Answer.{Answer}
 use Rattle.numbers.specs.declared.answer.Answer.the-variants.{Done, NotEachOnce, PairTurned}
 use Rattle.edges.specs.Rules.{isPlane}
-use Rattle.ladder.proofs.Ladder.{all-kept}
+use Rattle.refusals.proofs.Ladder.{all-kept}
 use Rattle.reorder.specs.Test.{Decides}
 use Rattle.reorder.specs.Once.{Once}
 use Rattle.reorder.specs.Order.{Kept, Accepted, run, upFrom}
@@ -22,8 +22,8 @@ use Rattle.reorder.proofs.Own.{plan-accepted}
 use Rattle.reorder.proofs.Swap.{length-swapped, swap-accepted}
 use Rattle.job.specs.Row.{rowAt}
 use Rattle.job.specs.Rects.{clashOf}
-use Rattle.work.specs.Jobs.{jobs}
-use Rattle.work.proofs.Clash.{clash-exact}
+use Rattle.job_work.specs.Jobs.{jobs}
+use Rattle.job_work.proofs.Clash.{clash-exact}
 use Rattle.order.specs.Rules.{jobsIn, isOnce, isKept}
 use Rattle.plan.specs.Rules.{isPlan, runRules, runAnswer}
 use Rattle.plan.specs.Run.{Memory, inOrder, planOrder, answerFor}

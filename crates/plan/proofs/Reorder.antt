@@ -10,8 +10,8 @@ use lib.IntN.{ℤ}
 use lib.ListN.{length}
 use Rattle.numbers.specs.declared.answer.Answer.{Answer}
 use Rattle.numbers.specs.declared.answer.Answer.the-variants.{Done}
-use Rattle.ladder.proofs.Ladder.{all-kept}
-use Rattle.ladder.proofs.Promise.{lent-done}
+use Rattle.refusals.proofs.Ladder.{all-kept}
+use Rattle.refusals.proofs.Promise.{lent-done}
 use Rattle.edges.proofs.Placed.{plane-is}
 use Rattle.reorder.specs.Test.{Decides}
 use Rattle.reorder.specs.Once.{Once}
@@ -20,9 +20,9 @@ use Rattle.reorder.proofs.Once.{fresh-of-once}
 use Rattle.reorder.proofs.Reorder.{reorder}
 use Rattle.reorder.proofs.Check.{once-decides, kept-decides}
 use Rattle.job.specs.Row.{rowAt}
-use Rattle.work.specs.Jobs.{jobs}
-use Rattle.work.proofs.Clash.{clash-exact}
-use Rattle.work.proofs.Laws.{job-laws}
+use Rattle.job_work.specs.Jobs.{jobs}
+use Rattle.job_work.proofs.Clash.{clash-exact}
+use Rattle.job_work.proofs.Laws.{job-laws}
 use Rattle.order.specs.Rules.{jobsIn, isOnce, isKept}
 use Rattle.plan.specs.Rules.{isPlan, runRules, runAnswer}
 use Rattle.plan.specs.Run.{Memory, inOrder, planOrder, answerFor, Ran, Rows}

@@ -10,13 +10,13 @@ use lib.ListN.{length, getD, set, take}
 use lib.Seq.{take-all}
 use Rattle.numbers.specs.Answer.{answerNumber}
 use Rattle.numbers.specs.declared.answer.Answer.{Answer}
-use Rattle.ladder.specs.Promise.{Promise}
+use Rattle.refusals.specs.Promise.{Promise}
 use Rattle.reorder.specs.Order.{doRow, run}
 use Rattle.reorder.proofs.Run.{run-next}
 use Rattle.job.specs.Row.{Row, rowAt}
 use Rattle.job.specs.Rules.{jobAnswer}
-use Rattle.work.specs.Done.{jobDone}
-use Rattle.work.specs.Jobs.{jobs}
+use Rattle.job_work.specs.Done.{jobDone}
+use Rattle.job_work.specs.Jobs.{jobs}
 use Rattle.plan.specs.Run.{Memory, memory, inOrder}
 
 module _ (W H : ℕ) (differences : List ℤ) (plan order : List ℕ) (before : Memory W H differences) where

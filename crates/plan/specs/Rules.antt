@@ -7,7 +7,7 @@ use lib.ListN.{length}
 use Rattle.numbers.specs.Limits.{mostJobs, rowWords}
 use Rattle.numbers.specs.declared.answer.Answer.{Answer}
 use Rattle.numbers.specs.declared.answer.Answer.the-variants.{BadPlane, BadPlan, NotEachOnce, PairTurned}
-use Rattle.ladder.specs.Ladder.{Rule, _else_, ladder}
+use Rattle.refusals.specs.Ladder.{Rule, _else_, ladder}
 use Rattle.edges.specs.Rules.{isPlane}
 use Rattle.order.specs.Rules.{jobsIn, isOnce, isKept}
 

@@ -9,10 +9,10 @@ use lib.Ieee.{Float}
 use lib.ListN.{length, getD}
 use Rattle.numbers.specs.declared.answer.Answer.{Answer}
 use Rattle.edges.specs.Rules.{isPlane}
-use Rattle.ladder.specs.Promise.{lent, Promise}
+use Rattle.refusals.specs.Promise.{lent, Promise}
 use Rattle.reorder.specs.Order.{Sheet, run, upFrom}
 use Rattle.job.specs.Row.{rowAt}
-use Rattle.work.specs.Jobs.{jobs}
+use Rattle.job_work.specs.Jobs.{jobs}
 use Rattle.order.specs.Rules.{jobsIn}
 use Rattle.plan.specs.Rules.{runAnswer}
 

@@ -25,7 +25,7 @@ fn run_rows(
         let i = order[k] as usize;
         let o = 16 * i;
         let e = o + 16;
-        let answer = work::do_job(
+        let answer = job_work::do_job(
             plane,
             width,
             height,

@@ -41,10 +41,10 @@ pub fn refused(
     if !is_plan(plan, order.len(), answers) {
         return Answer::BadPlan;
     }
-    if once::is_plan_order(order) {
+    if each_once::is_plan_order(order) {
         return Answer::Done;
     }
-    if !once::once(order) {
+    if !each_once::once(order) {
         return Answer::NotEachOnce;
     }
     if !kept::kept(width, height, n, plan, order) {

@@ -7,7 +7,7 @@ use native.Mathlib.Omega.{arith}
 use lib.IntN.{ℤ, pos}
 use lib.ListN.{length, getD, set, length-set}
 use lib.Seq.{getD-set-same, getD-set-other}
-use Rattle.zint.proofs.Naturals.{either}
+use Rattle.signed.proofs.Naturals.{either}
 use Rattle.product_table.specs.Wide.{overBy, cleared, mask, WideTo}
 
 -- nothing is asked of the first 0 entries

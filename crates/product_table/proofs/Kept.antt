@@ -8,14 +8,14 @@ use lib.Bits.{bitAnd, and-high}
 use lib.Pow.{pow-add}
 use lib.IntN.{ℤ, pos, negsuc, natAbs, _+ℤ_, _*ℤ_}
 use lib.Signed.{shrZ}
-use Rattle.zint.proofs.Parts.{same, mul}
-use Rattle.zint.proofs.Bound.{abs-times}
-use Rattle.fixed.specs.Product.{digits, over, narrow, signed, near, mulFixed}
+use Rattle.signed.proofs.Parts.{same, mul}
+use Rattle.signed.proofs.Bound.{abs-times}
+use Rattle.fixed_product.specs.Product.{digits, over, narrow, signed, near, mulFixed}
 use Rattle.product_table.specs.Wide.{cleared, mask, keptProduct, halfOf}
-use Rattle.fixed.proofs.Shift.{shr-pow-pos}
-use Rattle.fixed.proofs.Away.{down}
-use Rattle.fixed.proofs.Rounding.{near-is, rounded-near}
-use Rattle.fixed.proofs.Short.{signed-mul}
+use Rattle.fixed_product.proofs.Shift.{shr-pow-pos}
+use Rattle.fixed_product.proofs.Away.{down}
+use Rattle.fixed_product.proofs.Rounding.{near-is, rounded-near}
+use Rattle.fixed_product.proofs.Short.{signed-mul}
 
 -- twelve digits and the mask: what is left of n is n without its last s
 pub masked : (n s : ℕ) → n < 4096 → s ≤ 12 → bitAnd n (mask s) ≡ n / 2 ^ s * 2 ^ s

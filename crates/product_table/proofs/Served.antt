@@ -11,14 +11,14 @@ use lib.ListN.{getD}
 use lib.Signed.{shrZ}
 use mir.Syntax.{w32, w64}
 use mir.Val.{SFits}
-use Rattle.zint.proofs.Bound.{Bound, b-abs, b-pos, b-add, b-mul, abs-shr, sfits-abs}
-use Rattle.zint.proofs.Naturals.{pow-le}
-use Rattle.zint.proofs.Range.{pos-inside}
-use Rattle.fixed.specs.Product.{ilog2, digits, over}
+use Rattle.signed.proofs.Bound.{Bound, b-abs, b-pos, b-add, b-mul, abs-shr, sfits-abs}
+use Rattle.signed.proofs.Naturals.{pow-le}
+use Rattle.signed.proofs.Range.{pos-inside}
+use Rattle.fixed_product.specs.Product.{ilog2, digits, over}
 use Rattle.product_table.specs.Wide.{overBy, cleared, mask, keptProduct, halfOf, Wide}
-use Rattle.fixed.proofs.Shift.{odd, ilog2-is, ilog2-odd}
-use Rattle.fixed.proofs.Bounds.{digits-of}
-use Rattle.fixed.proofs.Short.{digits-twelve, over-few}
+use Rattle.fixed_product.proofs.Shift.{odd, ilog2-is, ilog2-odd}
+use Rattle.fixed_product.proofs.Bounds.{digits-of}
+use Rattle.fixed_product.proofs.Short.{digits-twelve, over-few}
 
 pub half-small : (a : ℤ) → natAbs (halfOf a) ≤ 32768
 half-small (pos n) = omega arith

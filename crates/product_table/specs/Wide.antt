@@ -7,7 +7,7 @@ use lib.Bits.{bitAnd}
 use lib.IntN.{ℤ, pos, negsuc, natAbs, _*ℤ_}
 use lib.ListN.{length, getD}
 use lib.Signed.{shrZ}
-use Rattle.fixed.specs.Product.{digits, over}
+use Rattle.fixed_product.specs.Product.{digits, over}
 
 -- how many digits are above 29, of a and a second factor of d digits
 abbrev pub overBy : ℤ → ℕ → ℕ

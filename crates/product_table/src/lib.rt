@@ -1,13 +1,13 @@
 // The product at shift 16 by a second factor in 0..4095 (document 01, Colour parameters), for many of them: what both factors drop hangs on how many
 // binary digits the second has, so that it is worked out once for each count. Digits are cleared and not shifted out, and one shift serves for all.
-use fixed::product;
+use fixed_product::product;
 ghost use mathlib.Core.Path.{_≡_};
 ghost use mathlib.Core.Bool.{true};
 ghost use Prim.Native.Nat.{_≤_};
 ghost use lib.IntN.{pos};
 ghost use lib.ListN.{length};
-ghost use Rattle.zint.specs.Range.{inside};
-ghost use Rattle.fixed.specs.Product.{mulFixed};
+ghost use Rattle.signed.specs.Range.{inside};
+ghost use Rattle.fixed_product.specs.Product.{mulFixed};
 ghost use Rattle.product_table.specs.Wide.{cleared, mask, keptProduct, halfOf, Wide};
 
 // What rounds a product by a to the nearest, before a shift by 16.

@@ -11,7 +11,7 @@ use lib.IntN.{ℤ, pos, negsuc, natAbs, _*ℤ_}
 use lib.Signed.{leZ}
 use mir.Syntax.{w32}
 use mir.Val.{SFits}
-use Rattle.zint.proofs.Bound.{sfits-abs}
+use Rattle.signed.proofs.Bound.{sfits-abs}
 use Rattle.lists.proofs.Table.{at, both, both-left, both-right}
 use Rattle.reciprocal.specs.Division.{curve, fraction, scaleOf, pow2w, pow2o, pow2b}
 

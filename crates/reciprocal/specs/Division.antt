@@ -6,7 +6,7 @@ use lib.Dec.{ltb}
 use lib.ListN.{getD}
 use lib.IntN.{ℤ, pos, _+ℤ_, _-ℤ_, _*ℤ_}
 use lib.Signed.{shrZ}
-use Rattle.fixed.specs.Product.{ilog2}
+use Rattle.fixed_product.specs.Product.{ilog2}
 
 -- the curve's eight pieces: a square's weight, where it is 0, and the height there
 abbrev pub pow2w : List ℤ

@@ -1,12 +1,12 @@
 // The reciprocal of a natural number, `division_scale_shift` of mhccp.rs (document 01, Colour parameters): a curve of eight pieces, each with a
 // square.
-use fixed::product;
+use fixed_product::product;
 use std::num;
 ghost use mathlib.Core.Path.{_≡_};
 ghost use Prim.Native.Nat.{_≤_, _<_, _^_, min, max};
 ghost use lib.IntN.{natAbs};
 ghost use Rattle.reciprocal.specs.Division.{piece, curve, moved, scaleOf};
-ghost use Rattle.fixed.specs.Product.{ilog2};
+ghost use Rattle.fixed_product.specs.Product.{ilog2};
 
 // The pieces: the weight of each one's square, where the square is 0, and the height there.
 const POW2W: [i32; 8] = [214, 153, 113, 86, 67, 53, 43, 35];

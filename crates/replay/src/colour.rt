@@ -2,7 +2,7 @@
 // first rows.
 use crate::line;
 use series::fill;
-use sums::window::Window;
+use colour_sums::window::Window;
 
 // The window's sizes stand after the depth and the direction.
 pub fn window_at(s: &[u8], at: usize) -> Window {

@@ -11,7 +11,7 @@ fn call(s: &[u8], at: usize, luma: &[i32], chroma: &[i32], params: &mut [i32]) -
     let w = colour::window_at(s, at);
     let d = line::number(s, at, 0);
     let direction = line::number(s, at, 1);
-    derive::derive_into(luma, chroma, w, direction, d, params).number()
+    colour_params::derive_into(luma, chroma, w, direction, d, params).number()
 }
 
 // The same, on the lists' first entries.

@@ -14,7 +14,7 @@ fn param(s: &[u8], at: usize, n: usize) -> i32 {
 // The call's answer's number.
 fn call(s: &[u8], at: usize, luma: &[i32], out: &mut [i32]) -> u32 {
     let w = colour::window_at(s, at);
-    predict::predict_block(
+    colour_block::predict_block(
         luma,
         w,
         line::size(s, at, 6),

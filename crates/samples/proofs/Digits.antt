@@ -11,7 +11,7 @@ use lib.Ieee.{Float, nan, inf, fin, binary32, fits, isNan, ofBits, toBits, lt, l
 use lib.Ieee.Bits.{ofBits-toBits}
 use lib.Ieee.Nearest.{div-same}
 use lib.Ieee.Positive.{num, den, positive, den-pos, value→cross}
-use Rattle.zint.proofs.Naturals.{pow-below}
+use Rattle.signed.proofs.Naturals.{pow-below}
 use Rattle.samples.specs.Sample.{half}
 use Rattle.samples.proofs.Within.{two-to, no, Within, within, units-ge, units-lt}
 use Rattle.samples.proofs.Fields.{ofBits-is, Read, read}

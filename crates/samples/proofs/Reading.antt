@@ -9,7 +9,7 @@ use lib.IntN.{pos}
 use lib.Ieee.{Float, nan, inf, fin, binary32, up, down, add, lt, le, eq, ofInt, toUnsigned}
 use lib.Ieee.Fits.{down-pos}
 use Rattle.numbers.specs.Depth.{isDepth, most}
-use Rattle.zint.proofs.Range.{and-both}
+use Rattle.signed.proofs.Range.{and-both}
 use Rattle.samples.specs.Sample.{zero, half, above, isSample, reading, Readable}
 use Rattle.samples.proofs.Within.{yes}
 use Rattle.samples.proofs.Half.{at-most-top, top, depth-top, sum-most, sum-least}

@@ -4,7 +4,7 @@ ghost use mathlib.Core.Bool.{true};
 ghost use lib.Dec.{T};
 ghost use lib.IntN.{pos};
 ghost use lib.Ieee.{le, lt, toUnsigned};
-ghost use Rattle.zint.specs.Range.{inside};
+ghost use Rattle.signed.specs.Range.{inside};
 ghost use Rattle.samples.specs.Sample.{half, above, isSample, reading, Readable};
 
 // x without its fraction: the exponent's field says how far the digits are shifted. From 0.5 on that is by 24 places at most, so that no test is needed.

@@ -6,8 +6,8 @@ use native.Mathlib.Omega.{arith}
 use lib.Dec.{leb}
 use lib.IntN.{ℤ, pos, _+ℤ_, _*ℤ_}
 use lib.Signed.{shrZ}
-use Rattle.zint.specs.Range.{inside}
-use Rattle.zint.proofs.Range.{inside-abs, inside-pos, pos-inside}
+use Rattle.signed.specs.Range.{inside}
+use Rattle.signed.proofs.Range.{inside-abs, inside-pos, pos-inside}
 use Rattle.setting.specs.Corner.{cornerOf}
 
 natural : (v l k a : ℕ) → l ≤ v → k ≤ v → a ≤ v

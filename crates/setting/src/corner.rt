@@ -2,7 +2,7 @@
 ghost use mathlib.Core.Path.{_≡_};
 ghost use mathlib.Core.Bool.{true};
 ghost use lib.IntN.{pos};
-ghost use Rattle.zint.specs.Range.{inside};
+ghost use Rattle.signed.specs.Range.{inside};
 ghost use Rattle.setting.specs.Corner.{cornerOf};
 
 // The corner that zone 2 takes.

@@ -7,9 +7,9 @@ use native.Mathlib.Omega.{arith}
 use lib.IntN.{ℤ, pos, natAbs}
 use lib.Pow.{pow-pos}
 use Rattle.numbers.specs.Size.{isSize}
-use Rattle.zint.specs.Range.{inside, Edge}
-use Rattle.zint.proofs.Mean.{mean-is}
-use Rattle.zint.proofs.Range.{inside-abs, inside-pos, pos-inside}
+use Rattle.signed.specs.Range.{inside, Edge}
+use Rattle.signed.proofs.Mean.{mean-is}
+use Rattle.signed.proofs.Range.{inside-abs, inside-pos, pos-inside}
 use Rattle.smooth_steps.specs.Parts.{part, weighed, mean}
 use Rattle.smooth_steps.proofs.Parts.{weighed-most}
 use Rattle.smooth_weights.specs.Weights.{log2, scale, weight}

@@ -10,12 +10,12 @@ use lib.ListN.{length, getD}
 use mir.Syntax.{w32}
 use mir.Val.{toZ, ofZ}
 use Rattle.numbers.specs.Size.{isSize}
-use Rattle.zint.specs.Range.{inside}
-use Rattle.zint.proofs.Range.{pos-inside}
+use Rattle.signed.specs.Range.{inside}
+use Rattle.signed.proofs.Range.{pos-inside}
 use Rattle.lists.specs.Fill.{tab}
 use Rattle.lists.proofs.Fill.{length-tab, tab-at}
-use Rattle.calls.specs.Given.{Given}
-use Rattle.calls.proofs.Accepted.{size-most}
+use Rattle.direct_calls.specs.Given.{Given}
+use Rattle.direct_calls.proofs.Accepted.{size-most}
 use Rattle.smooth_steps.specs.Parts.{entry, weighed, Step, Entries, Weights}
 use Rattle.smooth_steps.proofs.Steps.{entry-in, entry-abs, entry-most}
 use Rattle.smooth_weights.specs.Weights.{log2, scale, weight}

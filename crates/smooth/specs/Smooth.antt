@@ -3,7 +3,7 @@ use Prim.Native.Nat.{ℕ, _-_, _/_, _^_}
 use lib.ListN.{getD}
 use lib.IntN.{ℤ, pos, _+ℤ_, _-ℤ_, _*ℤ_}
 use lib.Signed.{shrZ}
-use Rattle.calls.specs.Direct.{Predictor}
+use Rattle.direct_calls.specs.Direct.{Predictor}
 use Rattle.smooth_weights.specs.Weights.{log2, scale, weight}
 
 -- z >> k

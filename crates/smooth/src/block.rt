@@ -4,7 +4,7 @@ ghost use Prim.Native.Nat.{_-_, _*_, _≤_};
 ghost use lib.IntN.{pos, natAbs};
 ghost use lib.ListN.{length, getD};
 ghost use Rattle.lists.specs.Block.{block};
-ghost use Rattle.calls.specs.Given.{Given};
+ghost use Rattle.direct_calls.specs.Given.{Given};
 ghost use Rattle.smooth_steps.specs.Parts.{entry, weighed, Entries, Step, Weights};
 ghost use Rattle.smooth.specs.Smooth.{smoothVAt, smoothHAt, smoothAt};
 

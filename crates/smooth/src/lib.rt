@@ -2,14 +2,14 @@
 pub mod block;
 
 use numbers::answer::Answer;
-ghost use Rattle.calls.specs.Direct.{Predicted};
+ghost use Rattle.direct_calls.specs.Direct.{Predicted};
 ghost use Rattle.smooth.specs.Smooth.{smoothVAt, smoothHAt, smoothAt};
 
 // smooth: done, with the block in out[..b * b], or a refusal, with nothing written.
 pub fn smooth(b: u16, d: u16, above: &[i32], left: &[i32], corner: i32, out: &mut [f32]) -> Answer
     ensures { λ r. ⌜ Predicted smoothAt b d (now (above .entry)) (now (left .entry)) corner (now (out .entry)) (now (out .exit)) r ⌝ }
 {
-    let answer = calls::direct::direct(b, d, true, above, left, corner, out.len());
+    let answer = direct_calls::direct::direct(b, d, true, above, left, corner, out.len());
     if !answer.is_done() {
         return answer;
     }
@@ -21,7 +21,7 @@ pub fn smooth(b: u16, d: u16, above: &[i32], left: &[i32], corner: i32, out: &mu
 pub fn smooth_v(b: u16, d: u16, above: &[i32], left: &[i32], corner: i32, out: &mut [f32]) -> Answer
     ensures { λ r. ⌜ Predicted smoothVAt b d (now (above .entry)) (now (left .entry)) corner (now (out .entry)) (now (out .exit)) r ⌝ }
 {
-    let answer = calls::direct::direct(b, d, true, above, left, corner, out.len());
+    let answer = direct_calls::direct::direct(b, d, true, above, left, corner, out.len());
     if !answer.is_done() {
         return answer;
     }
@@ -33,7 +33,7 @@ pub fn smooth_v(b: u16, d: u16, above: &[i32], left: &[i32], corner: i32, out: &
 pub fn smooth_h(b: u16, d: u16, above: &[i32], left: &[i32], corner: i32, out: &mut [f32]) -> Answer
     ensures { λ r. ⌜ Predicted smoothHAt b d (now (above .entry)) (now (left .entry)) corner (now (out .entry)) (now (out .exit)) r ⌝ }
 {
-    let answer = calls::direct::direct(b, d, true, above, left, corner, out.len());
+    let answer = direct_calls::direct::direct(b, d, true, above, left, corner, out.len());
     if !answer.is_done() {
         return answer;
     }

@@ -4,7 +4,7 @@ use Prim.Native.Nat.{ℕ, _+_, _-_, _*_, _/_, _≤_, _<_}
 use native.Mathlib.Nat.{sub-zero}
 use native.Mathlib.Omega.{arith}
 use lib.Arith.{digits-div}
-use Rattle.zint.proofs.Mean.{mean-most}
+use Rattle.signed.proofs.Mean.{mean-most}
 use Rattle.smooth_steps.specs.Parts.{part, weighed}
 
 -- the sum in the order in which the code adds it

@@ -10,9 +10,9 @@ use lib.ListN.{length, getD}
 use lib.Pow.{pow-pos, pow-mono}
 use mir.Syntax.{w32}
 use mir.Val.{toZ, ofZ}
-use Rattle.zint.specs.Range.{inside}
-use Rattle.zint.proofs.Bound.{back-abs}
-use Rattle.zint.proofs.Range.{inside-abs}
+use Rattle.signed.specs.Range.{inside}
+use Rattle.signed.proofs.Bound.{back-abs}
+use Rattle.signed.proofs.Range.{inside-abs}
 use Rattle.lists.specs.Fill.{filled}
 use Rattle.lists.proofs.Fill.{length-filled, filled-at}
 use Rattle.smooth_steps.specs.Parts.{entry, part, weighed, Step, Entries, Weights}

@@ -4,7 +4,7 @@ use mathlib.Core.List.{List}
 use Prim.Native.Nat.{ℕ, _+_, _-_, _*_, _/_, _^_, _≤_, _<_}
 use lib.IntN.{ℤ, pos}
 use lib.ListN.{length, getD}
-use Rattle.zint.specs.Range.{Edge}
+use Rattle.signed.specs.Range.{Edge}
 
 -- an entry of an edge
 abbrev pub entry : List ℤ → ℕ → ℤ

@@ -5,8 +5,8 @@ use mathlib.Core.Bool.{Bool}
 use mathlib.Core.List.{List}
 use lib.IntN.{ℤ, pos}
 use lib.ListN.{length, getD}
-use Rattle.zint.specs.Range.{Edge}
-use Rattle.interp.specs.Interp.{between}
+use Rattle.signed.specs.Range.{Edge}
+use Rattle.interpolation.specs.Interp.{between}
 
 -- the sample at q 64ths from the corner
 abbrev pub listed : Bool → ℤ → List ℤ → ℕ → ℤ

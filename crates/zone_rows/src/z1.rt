@@ -4,9 +4,9 @@ ghost use mathlib.Core.Bool.{true};
 ghost use Prim.Native.Nat.{_+_, _*_, _/_, _≤_};
 ghost use lib.IntN.{pos};
 ghost use lib.ListN.{length};
-ghost use Rattle.zint.specs.Range.{inside};
+ghost use Rattle.signed.specs.Range.{inside};
 ghost use Rattle.lists.specs.Block.{block};
-ghost use Rattle.interp.specs.Quads.{tableOf};
+ghost use Rattle.interpolation.specs.Quads.{tableOf};
 ghost use Rattle.zone_rows.specs.Listed.{ahead, Holds};
 
 // h rows of w samples, in out[..h * w], by the taps of a table.
@@ -30,7 +30,7 @@ fn z1_by(
     while r < h {
         let e = o + w;
         q += dx;
-        interp::between::between(list, lum, filters, q, m, &mut out[o..e]);
+        interpolation::between::between(list, lum, filters, q, m, &mut out[o..e]);
         o = e;
         r += 1;
     }
@@ -42,10 +42,10 @@ pub fn z1_rows(w: usize, h: usize, lum: bool, dx: usize, m: i32, list: &[i32], o
     ensures { λ _. ⌜ now (out .exit) ≡ block w h (ahead lum m dx (now (list .entry))) (now (out .entry)) ⌝ }
 {
     if lum {
-        let filters = interp::table::luma_table();
+        let filters = interpolation::table::luma_table();
         z1_by(w, h, lum, &filters, dx, m, list, out);
     } else {
-        let filters = interp::table::chroma_table();
+        let filters = interpolation::table::chroma_table();
         z1_by(w, h, lum, &filters, dx, m, list, out);
     }
 }

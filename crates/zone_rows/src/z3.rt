@@ -5,11 +5,11 @@ ghost use mathlib.Core.Bool.{true};
 ghost use Prim.Native.Nat.{_+_, _*_, _/_, _≤_};
 ghost use lib.IntN.{pos};
 ghost use lib.ListN.{length, getD};
-ghost use Rattle.zint.specs.Range.{inside};
+ghost use Rattle.signed.specs.Range.{inside};
 ghost use Rattle.lists.specs.Fill.{filled};
 ghost use Rattle.lists.specs.Block.{rows, sample, block};
-ghost use Rattle.interp.specs.Quads.{tableOf};
-ghost use Rattle.interp.specs.Interp.{between};
+ghost use Rattle.interpolation.specs.Quads.{tableOf};
+ghost use Rattle.interpolation.specs.Interp.{between};
 ghost use Rattle.zone_rows.specs.Listed.{ahead, Holds};
 
 // The columns of a strip: column c starts (c + 1) dy 64ths after from.
@@ -33,7 +33,7 @@ fn z3_columns(
     while c < w {
         let e = o + 4;
         q += dy;
-        interp::between::between(list, lum, filters, q, m, &mut strip[o..e]);
+        interpolation::between::between(list, lum, filters, q, m, &mut strip[o..e]);
         o = e;
         c += 1;
     }
@@ -83,10 +83,10 @@ pub fn z3_strips(
     ensures { λ _. ⌜ now (out .exit) ≡ block w (4 * n) (λ r c. ahead lum m dy (now (list .entry)) c r) (now (out .entry)) ⌝ }
 {
     if lum {
-        let filters = interp::table::luma_table();
+        let filters = interpolation::table::luma_table();
         z3_by(w, n, lum, &filters, dy, m, list, strip, out);
     } else {
-        let filters = interp::table::chroma_table();
+        let filters = interpolation::table::chroma_table();
         z3_by(w, n, lum, &filters, dy, m, list, strip, out);
     }
 }

@@ -8,12 +8,12 @@ use lib.Dec.{leb, ltb}
 use lib.IntN.{ℤ, pos, natAbs}
 use lib.ListN.{getD}
 use borrow.Author.Tests.{ltb-true}
-use Rattle.zint.specs.Range.{inside}
-use Rattle.zint.proofs.Range.{inside-pos}
-use Rattle.interp.specs.Interp.{between}
-use Rattle.interp.proofs.Laws.{between-move}
-use Rattle.interp.proofs.Flat.{between-flat}
-use Rattle.filter.specs.Filter.{padded}
+use Rattle.signed.specs.Range.{inside}
+use Rattle.signed.proofs.Range.{inside-pos}
+use Rattle.interpolation.specs.Interp.{between}
+use Rattle.interpolation.proofs.Laws.{between-move}
+use Rattle.interpolation.proofs.Flat.{between-flat}
+use Rattle.edge_filter.specs.Filter.{padded}
 use Rattle.zones.specs.Zones.{along, zone2}
 use Rattle.zone_rows.specs.Listed.{listed}
 use Rattle.zones.specs.Either.{either}

@@ -8,10 +8,10 @@ use native.Mathlib.Omega.{arith}
 use lib.Ieee.{Float}
 use lib.IntN.{ℤ, pos}
 use lib.ListN.{getD}
-use Rattle.zint.specs.Range.{inside}
+use Rattle.signed.specs.Range.{inside}
 use Rattle.lists.specs.Block.{block}
 use Rattle.lists.proofs.Block.{block-same}
-use Rattle.filter.specs.Filter.{padded}
+use Rattle.edge_filter.specs.Filter.{padded}
 use Rattle.zones.specs.Zones.{zone1, zone2, zone3}
 use Rattle.zone_rows.specs.Listed.{ahead}
 use Rattle.zones.specs.Either.{either}

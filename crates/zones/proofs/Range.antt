@@ -5,9 +5,9 @@ use mathlib.Core.Path.{_≡_}
 use Prim.Native.Nat.{ℕ, _+_, _*_, _/_}
 use lib.Dec.{leb, ltb}
 use lib.IntN.{ℤ, pos}
-use Rattle.zint.specs.Range.{inside}
-use Rattle.interp.proofs.Inside.{between-inside}
-use Rattle.filter.proofs.Filtered.{one-of}
+use Rattle.signed.specs.Range.{inside}
+use Rattle.interpolation.proofs.Inside.{between-inside}
+use Rattle.edge_filter.proofs.Filtered.{one-of}
 use Rattle.zones.specs.Zones.{along, zone2}
 
 module _ (M : ℕ) where

@@ -4,8 +4,8 @@ use Prim.Native.Nat.{ℕ, _+_, _-_, _*_, _/_}
 use mathlib.Core.Bool.{Bool, cond}
 use lib.Dec.{leb, ltb}
 use lib.IntN.{ℤ}
-use Rattle.interp.specs.Interp.{between}
-use Rattle.filter.specs.Filter.{padded}
+use Rattle.interpolation.specs.Interp.{between}
+use Rattle.edge_filter.specs.Filter.{padded}
 
 -- the sample at q 64ths from the corner, along an edge with its ends repeated: past the last place it is that place's entry
 unfoldable pub along : Bool → ℤ → ℕ → (ℕ → ℤ) → ℕ → ℤ

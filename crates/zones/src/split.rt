@@ -8,10 +8,10 @@ ghost use lib.Dec.{leb};
 ghost use lib.Ieee.{nan};
 ghost use lib.IntN.{pos};
 ghost use lib.ListN.{length, getD};
-ghost use Rattle.zint.specs.Range.{inside};
+ghost use Rattle.signed.specs.Range.{inside};
 ghost use Rattle.lists.specs.Fill.{tab};
 ghost use Rattle.lists.specs.Block.{rows, sample};
-ghost use Rattle.interp.specs.Quads.{tableOf};
+ghost use Rattle.interpolation.specs.Quads.{tableOf};
 ghost use Rattle.zone_rows.specs.Listed.{listed, Holds};
 ghost use Rattle.zones.specs.Split.{splitOf};
 
@@ -45,7 +45,7 @@ fn split_row(
     spread::spread_row(strip, j, &mut row[start..k]);
     if k < w {
         let q = 64 * (k + 4) - t;
-        interp::between::between(top, lum, filters, q, m, &mut row[k..w]);
+        interpolation::between::between(top, lum, filters, q, m, &mut row[k..w]);
     }
 }
 

@@ -5,11 +5,11 @@ ghost use mathlib.Core.Bool.{true};
 ghost use Prim.Native.Nat.{_+_, _*_, _-_, _≤_, _<_};
 ghost use lib.IntN.{pos};
 ghost use lib.ListN.{length, getD};
-ghost use Rattle.zint.specs.Range.{inside};
+ghost use Rattle.signed.specs.Range.{inside};
 ghost use Rattle.lists.specs.Fill.{filled};
 ghost use Rattle.lists.specs.Block.{rows, sample};
-ghost use Rattle.interp.specs.Quads.{tableOf};
-ghost use Rattle.interp.specs.Interp.{between};
+ghost use Rattle.interpolation.specs.Quads.{tableOf};
+ghost use Rattle.interpolation.specs.Interp.{between};
 ghost use Rattle.zone_rows.specs.Listed.{Holds};
 ghost use Rattle.zones.specs.Split.{splitOf};
 
@@ -45,7 +45,7 @@ pub fn left_columns(
         }
         let e = o + 4;
         q -= dy;
-        interp::between::between(left, lum, filters, q, m, &mut strip[o..e]);
+        interpolation::between::between(left, lum, filters, q, m, &mut strip[o..e]);
         o = e;
         c += 1;
     }

@@ -6,10 +6,10 @@ ghost use mathlib.Core.Bool.{true};
 ghost use Prim.Native.Nat.{_+_, _*_, _≤_, _<_};
 ghost use lib.IntN.{pos};
 ghost use lib.ListN.{length};
-ghost use Rattle.zint.specs.Range.{inside};
+ghost use Rattle.signed.specs.Range.{inside};
 ghost use Rattle.lists.specs.Fill.{tab};
 ghost use Rattle.lists.specs.Block.{rows, sample, block};
-ghost use Rattle.interp.specs.Quads.{tableOf};
+ghost use Rattle.interpolation.specs.Quads.{tableOf};
 ghost use Rattle.zone_rows.specs.Listed.{Holds};
 ghost use Rattle.zones.specs.Either.{either};
 
@@ -94,10 +94,10 @@ pub fn z2_strips(
     ensures { λ _. ⌜ now (out .exit) ≡ block w (4 * n) (either lum m dx dy (now (top .entry)) (now (left .entry))) (now (out .entry)) ⌝ }
 {
     if lum {
-        let filters = interp::table::luma_table();
+        let filters = interpolation::table::luma_table();
         z2_by(w, n, lum, &filters, dx, dy, m, top, left, strip, out);
     } else {
-        let filters = interp::table::chroma_table();
+        let filters = interpolation::table::chroma_table();
         z2_by(w, n, lum, &filters, dx, dy, m, top, left, strip, out);
     }
 }

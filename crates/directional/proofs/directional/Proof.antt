@@ -7,10 +7,10 @@ use lib.ListN.{length}
 use mir.Facts.{toZ-ofZ}
 use Rattle.numbers.specs.Answer.{isDone}
 use Rattle.numbers.proofs.Named.{done-is}
-use Rattle.ladder.proofs.Promise.{refused, finished}
-use Rattle.calls.specs.Direct.{directAnswer}
-use Rattle.calls.proofs.Accepted.{Accepted, accepted}
-use Rattle.calls.proofs.Given.{given}
+use Rattle.refusals.proofs.Promise.{refused, finished}
+use Rattle.direct_calls.specs.Direct.{directAnswer}
+use Rattle.direct_calls.proofs.Accepted.{Accepted, accepted}
+use Rattle.direct_calls.proofs.Given.{given}
 use Rattle.directional.specs.Words.{isNamed}
 use Rattle.directional.proofs.directional.Statement.{statement}
 use Rattle.directional.proofs.directional.Tie as tie

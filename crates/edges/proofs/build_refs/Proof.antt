@@ -9,9 +9,9 @@ use lib.ListN.{length}
 use mir.Syntax.{w32}
 use Rattle.numbers.specs.Answer.{isDone}
 use Rattle.numbers.proofs.Named.{done-is}
-use Rattle.zint.proofs.Bound.{back}
+use Rattle.signed.proofs.Bound.{back}
 use Rattle.lists.proofs.Fill.{filled-none, filled-more}
-use Rattle.ladder.proofs.Promise.{refused, finished}
+use Rattle.refusals.proofs.Promise.{refused, finished}
 use Rattle.edges.proofs.Accepted.{Accepted, accepted}
 use Rattle.edges.proofs.build_refs.Statement.{statement}
 use Rattle.edges.proofs.build_refs.Tie as tie

@@ -6,10 +6,10 @@ use lib.IntN.{ℤ, natAbs}
 use mir.Syntax.{w32}
 use mir.Val.{SFits}
 use borrow.Author.Needs.{sfits-of}
-use Rattle.zint.proofs.Bound.{back}
+use Rattle.signed.proofs.Bound.{back}
 use Rattle.elimination.specs.Rows.{reduced}
-use Rattle.zint.proofs.Bound.{sfits-abs}
-use Rattle.fixed.proofs.Thru.{thru}
+use Rattle.signed.proofs.Bound.{sfits-abs}
+use Rattle.fixed_product.proofs.Thru.{thru}
 use Rattle.elimination.proofs.Calls.{Got, got-reduced}
 use Rattle.elimination.proofs.backward.Statement.{statement}
 use Rattle.elimination.proofs.backward.Tie as tie

@@ -1,6 +1,6 @@
 -- `latch_build_refs` meets its contract: the call's promise, with its answer's number. Assumes nothing.
 use borrow.Author.Needs.{needs}
-use Rattle.ladder.proofs.Promise.{numbered}
+use Rattle.refusals.proofs.Promise.{numbered}
 use Rattle.latch.proofs.latch_build_refs.Statement.{statement}
 use Rattle.latch.proofs.latch_build_refs.Tie as tie
 

@@ -1,7 +1,7 @@
 -- `latch_smooth` meets its contract: the call's promise, with its answer's number. Assumes nothing.
 use borrow.Author.Needs.{needs}
 use mir.Facts.{toZ-ofZ}
-use Rattle.ladder.proofs.Promise.{numbered}
+use Rattle.refusals.proofs.Promise.{numbered}
 use Rattle.latch.proofs.latch_smooth.Statement.{statement}
 use Rattle.latch.proofs.latch_smooth.Tie as tie
 

@@ -7,7 +7,7 @@ use native.Mathlib.Omega.{arith}
 use mir.Syntax.{w32}
 use mir.Val.{toZ, ofZ}
 use mir.Facts.{toZ-ofZ}
-use Rattle.zint.proofs.Bound.{back-abs}
+use Rattle.signed.proofs.Bound.{back-abs}
 use Rattle.directional.specs.Words.{turnedBy}
 use Rattle.numbers.specs.declared.mode.Mode.the-variants.{Paeth, Smooth, SmoothV, SmoothH}
 use Rattle.lists.specs.Block.{block}

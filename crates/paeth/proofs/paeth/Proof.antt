@@ -6,10 +6,10 @@ use mathlib.Core.Bool.{true}
 use lib.ListN.{length}
 use mir.Facts.{toZ-ofZ}
 use Rattle.numbers.specs.Answer.{isDone}
-use Rattle.ladder.proofs.Promise.{refused, finished}
-use Rattle.calls.specs.Direct.{directAnswer}
-use Rattle.calls.specs.Given.{Given}
-use Rattle.calls.proofs.Passed.{passed}
+use Rattle.refusals.proofs.Promise.{refused, finished}
+use Rattle.direct_calls.specs.Direct.{directAnswer}
+use Rattle.direct_calls.specs.Given.{Given}
+use Rattle.direct_calls.proofs.Passed.{passed}
 use Rattle.paeth.proofs.paeth.Statement.{statement}
 use Rattle.paeth.proofs.paeth.Tie as tie
 

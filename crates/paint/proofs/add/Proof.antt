@@ -8,10 +8,10 @@ use lib.Signed.{mag}
 use mir.Syntax.{w16, w32}
 use mir.Val.{SFits}
 use mir.Facts.{toZ-ofZ}
-use Rattle.zint.proofs.Bound.{abs-add, sfits-abs, back, back-abs, widens, widened, exact}
+use Rattle.signed.proofs.Bound.{abs-add, sfits-abs, back, back-abs, widens, widened, exact}
 use Rattle.lists.specs.Block.{sample}
-use Rattle.interp.specs.Interp.{clip}
-use Rattle.interp.proofs.Laws.{clip-small}
+use Rattle.interpolation.specs.Interp.{clip}
+use Rattle.interpolation.proofs.Laws.{clip-small}
 use Rattle.paint.proofs.Cast.{whole-cast}
 use borrow.Author.Needs.{needs}
 use Rattle.paint.proofs.add.Statement.{statement}

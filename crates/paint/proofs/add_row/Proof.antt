@@ -8,7 +8,7 @@ use lib.IntN.{pos}
 use lib.Ieee.{nan}
 use mir.Syntax.{w16, w32}
 use mir.Val.{SFits, toZ, ofZ}
-use Rattle.zint.proofs.Bound.{back}
+use Rattle.signed.proofs.Bound.{back}
 use mir.Facts.{toZ-ofZ}
 use Rattle.lists.specs.Fill.{tab, filled}
 use Rattle.lists.proofs.Fill.{filled-none, filled-more, filled-all}

@@ -6,8 +6,8 @@ use lib.IntN.{pos}
 use lib.Signed.{ltZ}
 use mir.Syntax.{w32}
 use mir.Facts.{toZ-ofZ}
-use Rattle.zint.proofs.Bound.{back}
-use Rattle.interp.proofs.Laws.{clip-steps}
+use Rattle.signed.proofs.Bound.{back}
+use Rattle.interpolation.proofs.Laws.{clip-steps}
 use Rattle.paint.proofs.clipped.Statement.{statement}
 use Rattle.paint.proofs.clipped.Tie as tie
 

@@ -4,7 +4,7 @@ use borrow.Author.Tests.{not-true, not-false}
 use mathlib.Core.Path.{_≡_, sym, _∙_}
 use Rattle.numbers.specs.declared.answer.Answer.the-variants.{Done}
 use Rattle.numbers.proofs.Named.{done-is}
-use Rattle.ladder.proofs.Promise.{refused}
+use Rattle.refusals.proofs.Promise.{refused}
 use Rattle.plan.specs.Run.{Memory, memory, answerFor}
 use Rattle.plan.proofs.Reorder.{rows-of, ran-in-order}
 use Rattle.plan.proofs.run.Statement.{statement}

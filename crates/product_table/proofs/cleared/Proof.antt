@@ -6,11 +6,11 @@ use native.Mathlib.Omega.{arith}
 use lib.Signed.{shrZ}
 use mir.Syntax.{w32, w64}
 use mir.Val.{SFits}
-use Rattle.zint.proofs.Bound.{b-fits, back, back-pos, sfits-abs}
-use Rattle.zint.proofs.Naturals.{pow-le}
+use Rattle.signed.proofs.Bound.{b-fits, back, back-pos, sfits-abs}
+use Rattle.signed.proofs.Naturals.{pow-le}
 use Rattle.product_table.specs.Wide.{cleared}
-use Rattle.fixed.proofs.Shift.{shr-fits}
-use Rattle.fixed.proofs.Rounding.{one-shl}
+use Rattle.fixed_product.proofs.Shift.{shr-fits}
+use Rattle.fixed_product.proofs.Rounding.{one-shl}
 use Rattle.product_table.proofs.Served.{cleared-small, shifted-wide}
 use Rattle.product_table.proofs.cleared.Statement.{statement}
 use Rattle.product_table.proofs.cleared.Tie as tie

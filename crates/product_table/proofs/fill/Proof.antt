@@ -7,8 +7,8 @@ use lib.ListN.{length-set}
 use mir.Syntax.{w32, w64}
 use mir.Val.{toZ, ofZ}
 use borrow.Author.Needs.{needs, sfits-of}
-use Rattle.zint.proofs.Bound.{back}
-use Rattle.fixed.specs.Product.{digits}
+use Rattle.signed.proofs.Bound.{back}
+use Rattle.fixed_product.specs.Product.{digits}
 use Rattle.product_table.specs.Wide.{overBy, WideTo}
 use Rattle.product_table.proofs.Served.{over-by-few}
 use Rattle.product_table.proofs.Entries.{wide-none, wide-more}

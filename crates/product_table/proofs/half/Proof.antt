@@ -5,7 +5,7 @@ use native.Mathlib.Omega.{arith}
 use lib.IntN.{ℤ, pos, negsuc}
 use lib.Signed.{ltZ}
 use mir.Facts.{toZ-ofZ}
-use Rattle.zint.proofs.Order.{ltZ-true}
+use Rattle.signed.proofs.Order.{ltZ-true}
 use Rattle.product_table.specs.Wide.{halfOf}
 use Rattle.product_table.proofs.half.Statement.{statement}
 use Rattle.product_table.proofs.half.Tie as tie

@@ -9,11 +9,11 @@ use lib.ListN.{getD}
 use lib.Signed.{nonNeg}
 use mir.Syntax.{w32, w64}
 use mir.Val.{SFits, Fits}
-use Rattle.zint.proofs.Range.{inside-abs, inside-pos}
-use Rattle.zint.proofs.Bound.{back, back-pos, sfits-abs, b-fits}
-use Rattle.fixed.specs.Product.{over}
+use Rattle.signed.proofs.Range.{inside-abs, inside-pos}
+use Rattle.signed.proofs.Bound.{back, back-pos, sfits-abs, b-fits}
+use Rattle.fixed_product.specs.Product.{over}
 use Rattle.product_table.specs.Wide.{cleared, mask, keptProduct}
-use Rattle.fixed.proofs.Thru.{thru}
+use Rattle.fixed_product.proofs.Thru.{thru}
 use Rattle.product_table.proofs.Served.{zeros, place, place-few, place-is, first-is, second-is, first-small, kept-small, product-small}
 use Rattle.product_table.proofs.kept_product.Statement.{statement}
 use Rattle.product_table.proofs.kept_product.Tie as tie

@@ -3,9 +3,9 @@ use mathlib.Core.Path.{_≡_}
 use Prim.Native.Nat.{_-_, _*_, _%_, _^_, _≤_}
 use native.Mathlib.Omega.{arith}
 use mir.Syntax.{w64}
-use Rattle.zint.proofs.Bound.{back-pos, sfits-abs}
-use Rattle.zint.proofs.Naturals.{pow-le}
-use Rattle.fixed.proofs.Rounding.{one-shl}
+use Rattle.signed.proofs.Bound.{back-pos, sfits-abs}
+use Rattle.signed.proofs.Naturals.{pow-le}
+use Rattle.fixed_product.proofs.Rounding.{one-shl}
 use Rattle.product_table.proofs.mask.Statement.{statement}
 use Rattle.product_table.proofs.mask.Tie as tie
 

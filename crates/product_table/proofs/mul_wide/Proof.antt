@@ -7,12 +7,12 @@ use lib.IntN.{ℤ, pos, natAbs, _+ℤ_}
 use lib.Signed.{shrZ}
 use mir.Syntax.{w32, w64}
 use mir.Val.{SFits, toZ, ofZ}
-use Rattle.zint.proofs.Range.{inside-abs, inside-pos}
-use Rattle.zint.proofs.Bound.{Bound, back, sfits-abs, b-fits, b-shr}
-use Rattle.fixed.specs.Product.{mulFixed}
+use Rattle.signed.proofs.Range.{inside-abs, inside-pos}
+use Rattle.signed.proofs.Bound.{Bound, back, sfits-abs, b-fits, b-shr}
+use Rattle.fixed_product.specs.Product.{mulFixed}
 use Rattle.product_table.specs.Wide.{keptProduct, halfOf}
-use Rattle.fixed.proofs.Bounds.{mul-fits}
-use Rattle.fixed.proofs.Thru.{thru}
+use Rattle.fixed_product.proofs.Bounds.{mul-fits}
+use Rattle.fixed_product.proofs.Thru.{thru}
 use Rattle.product_table.proofs.Kept.{wide-is}
 use Rattle.product_table.proofs.Served.{few, half-small, sum-small}
 use Rattle.product_table.proofs.mul_wide.Statement.{statement}

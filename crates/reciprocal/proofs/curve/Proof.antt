@@ -7,7 +7,7 @@ use lib.IntN.{pos, natAbs, _-ℤ_}
 use mir.Syntax.{w32}
 use mir.Val.{SFits, toZ}
 use borrow.Author.Needs.{needs, sfits-of}
-use Rattle.zint.proofs.Bound.{abs-sub, sfits-abs, back, back-pos}
+use Rattle.signed.proofs.Bound.{abs-sub, sfits-abs, back, back-pos}
 use Rattle.reciprocal.specs.Division.{pow2w, pow2o, pow2b, curve}
 use Rattle.reciprocal.proofs.Range.{w-most, o-most, b-most}
 use Rattle.reciprocal.proofs.curve.Statement.{statement}

@@ -5,7 +5,7 @@ use lib.IntN.{ℤ, pos, _*ℤ_}
 use mir.Syntax.{w32}
 use mir.Val.{SFits, toZ, ofZ}
 use borrow.Author.Needs.{needs, sfits-of}
-use Rattle.zint.proofs.Bound.{back}
+use Rattle.signed.proofs.Bound.{back}
 use Rattle.reciprocal.specs.Division.{curve, moved, fraction, scaleOf}
 use Rattle.reciprocal.proofs.Range.{scale-fits}
 use Rattle.reciprocal.proofs.division_scale_shift.Statement.{statement}

@@ -8,8 +8,8 @@ use lib.Pow.{shl-exact}
 use borrow.Author.Needs.{needs}
 use borrow.Author.Tests.{lt-ltb, le-ltb}
 use Rattle.reciprocal.specs.Division.{dropped, moved}
-use Rattle.fixed.proofs.Shift.{ilog2-is, ilog2-le}
-use Rattle.fixed.proofs.Rounding.{one-shl}
+use Rattle.fixed_product.proofs.Shift.{ilog2-is, ilog2-le}
+use Rattle.fixed_product.proofs.Rounding.{one-shl}
 use Rattle.reciprocal.proofs.moved.Statement.{statement}
 use Rattle.reciprocal.proofs.moved.Tie as tie
 

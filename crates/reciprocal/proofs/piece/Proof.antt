@@ -7,8 +7,8 @@ use lib.IntN.{ℤ, _+ℤ_, _-ℤ_, _*ℤ_}
 use lib.Signed.{shrZ}
 use mir.Syntax.{w32}
 use mir.Val.{SFits}
-use Rattle.zint.proofs.Parts.{abs, one, shr}
-use Rattle.zint.proofs.Bound.{Bound, b-add, b-sub, b-mul, b-shr, b-fits, back}
+use Rattle.signed.proofs.Parts.{abs, one, shr}
+use Rattle.signed.proofs.Bound.{Bound, b-add, b-sub, b-mul, b-shr, b-fits, back}
 use Rattle.reciprocal.proofs.piece.Statement.{statement}
 use Rattle.reciprocal.proofs.piece.Tie as tie
 

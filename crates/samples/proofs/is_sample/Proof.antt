@@ -4,8 +4,8 @@ use mathlib.Core.Bool.{_&&_}
 use native.Mathlib.Omega.{arith}
 use lib.Ieee.{binary32, ofBits, le, ofInt}
 use mir.Syntax.{w32}
-use Rattle.zint.proofs.Bound.{back, exact}
-use Rattle.zint.proofs.Range.{inside-abs}
+use Rattle.signed.proofs.Bound.{back, exact}
+use Rattle.signed.proofs.Range.{inside-abs}
 use Rattle.samples.specs.Sample.{zero, isSample}
 use Rattle.samples.proofs.is_sample.Statement.{statement}
 use Rattle.samples.proofs.is_sample.Tie as tie

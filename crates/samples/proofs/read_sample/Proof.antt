@@ -6,7 +6,7 @@ use lib.Dec.{T}
 use lib.IntN.{pos}
 use lib.Ieee.{Float, binary32, ofBits, add, le, lt, toUnsigned}
 use mir.Syntax.{w32}
-use Rattle.zint.proofs.Bound.{back-pos}
+use Rattle.signed.proofs.Bound.{back-pos}
 use Rattle.samples.specs.Sample.{half, above, reading}
 use Rattle.samples.proofs.Reading.{sum-within, reading-small}
 use Rattle.samples.proofs.read_sample.Statement.{statement}

@@ -6,9 +6,9 @@ use mathlib.Core.Bool.{true}
 use lib.ListN.{length}
 use mir.Facts.{toZ-ofZ}
 use Rattle.numbers.specs.Answer.{isDone}
-use Rattle.ladder.proofs.Promise.{refused, finished}
-use Rattle.calls.specs.Direct.{directAnswer}
-use Rattle.calls.proofs.Passed.{passed}
+use Rattle.refusals.proofs.Promise.{refused, finished}
+use Rattle.direct_calls.specs.Direct.{directAnswer}
+use Rattle.direct_calls.proofs.Passed.{passed}
 use Rattle.smooth.proofs.Ready.{no-corner}
 use Rattle.smooth.proofs.smooth.Statement.{statement}
 use Rattle.smooth.proofs.smooth.Tie as tie

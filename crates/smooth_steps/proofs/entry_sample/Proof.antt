@@ -5,7 +5,7 @@ use mathlib.Core.Path.{_≡_, _∙_, ap}
 use Prim.Native.Nat.{_≤_}
 use lib.IntN.{pos, natAbs}
 use mir.Facts.{toZ-ofZ}
-use Rattle.zint.proofs.Range.{inside-abs}
+use Rattle.signed.proofs.Range.{inside-abs}
 use Rattle.lists.specs.Block.{sample}
 use Rattle.smooth_steps.specs.Parts.{weighed}
 use Rattle.smooth_steps.proofs.entry_sample.Statement.{statement}

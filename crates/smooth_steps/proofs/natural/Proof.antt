@@ -5,7 +5,7 @@ use lib.Dec.{T}
 use lib.IntN.{ℤ, natAbs}
 use lib.Signed.{nonNeg}
 use mir.Facts.{toZ-ofZ}
-use Rattle.zint.proofs.Range.{inside-abs, inside-pos}
+use Rattle.signed.proofs.Range.{inside-abs, inside-pos}
 use Rattle.smooth_steps.proofs.natural.Statement.{statement}
 use Rattle.smooth_steps.proofs.natural.Tie as tie
 

@@ -5,7 +5,7 @@ use mathlib.Core.Path.{_≡_, _∙_, ap}
 use Prim.Native.Nat.{_+_, _*_, _/_, _^_, _≤_}
 use lib.IntN.{natAbs}
 use mir.Facts.{toZ-ofZ}
-use Rattle.zint.proofs.Range.{inside-abs}
+use Rattle.signed.proofs.Range.{inside-abs}
 use Rattle.smooth_steps.specs.Parts.{part}
 use Rattle.smooth_steps.proofs.Steps.{step-asks, step-is}
 use Rattle.smooth_steps.proofs.ramp_to.Statement.{statement}

@@ -3,7 +3,7 @@ use native.Mathlib.Omega.{arith}
 use mathlib.Core.Path.{_≡_, _∙_, ap}
 use lib.IntN.{natAbs}
 use mir.Facts.{toZ-ofZ}
-use Rattle.zint.proofs.Range.{inside-abs}
+use Rattle.signed.proofs.Range.{inside-abs}
 use Rattle.smooth_steps.specs.Parts.{part}
 use Rattle.smooth_steps.proofs.Steps.{step-most}
 use Rattle.smooth_steps.proofs.smooth_to.Statement.{statement}

@@ -6,7 +6,7 @@ use lib.IntN.{pos}
 use mir.Syntax.{w32}
 use mir.Val.{toZ}
 use Rattle.lists.specs.Block.{sample}
-use Rattle.zint.proofs.Bound.{back-pos, exact}
+use Rattle.signed.proofs.Bound.{back-pos, exact}
 use Rattle.smooth_steps.proofs.to_sample.Statement.{statement}
 use Rattle.smooth_steps.proofs.to_sample.Tie as tie
 

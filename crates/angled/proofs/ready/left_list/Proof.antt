@@ -5,7 +5,7 @@ use mathlib.Core.Path.{_∙_}
 use Prim.Native.Nat.{_≤_, _+_}
 use mir.Facts.{toZ-ofZ}
 use Rattle.lists.specs.Fill.{filled}
-use Rattle.filter.specs.Filter.{edge, padded, filtered}
+use Rattle.edge_filter.specs.Filter.{edge, padded, filtered}
 use Rattle.setting.proofs.Most.{left-most}
 use Rattle.angled.proofs.ready.left_list.Statement.{statement}
 use Rattle.angled.proofs.ready.left_list.Tie as tie

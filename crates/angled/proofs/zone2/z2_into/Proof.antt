@@ -9,9 +9,9 @@ use lib.ListN.{getD}
 use mir.Facts.{toZ-ofZ}
 use mir.Syntax.{w32}
 use mir.Val.{toZ, ofZ}
-use Rattle.zint.specs.Range.{inside}
-use Rattle.zint.proofs.Bound.{back-abs}
-use Rattle.zint.proofs.Range.{inside-abs}
+use Rattle.signed.specs.Range.{inside}
+use Rattle.signed.proofs.Bound.{back-abs}
+use Rattle.signed.proofs.Range.{inside-abs}
 use Rattle.lists.specs.Block.{block}
 use Rattle.setting.specs.Corner.{cornerOf}
 use Rattle.setting.proofs.Samples.{corner-inside}

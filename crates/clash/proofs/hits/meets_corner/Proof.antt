@@ -2,7 +2,7 @@
 use borrow.Author.Tests.{not-true, not-false}
 use mathlib.Core.Path.{refl}
 use mathlib.Core.Bool.{_&&_}
-use Rattle.line.proofs.Every.{and-of}
+use Rattle.edge_line.proofs.Every.{and-of}
 use Rattle.clash.proofs.Runs.{meet-off, meet-on, and-no, no-and}
 use borrow.Author.Needs.{needs}
 use Rattle.clash.proofs.hits.meets_corner.Statement.{statement}

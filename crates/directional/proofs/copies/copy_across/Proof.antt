@@ -9,8 +9,8 @@ use lib.IntN.{ℤ, pos, natAbs}
 use lib.Ieee.{Float}
 use mir.Syntax.{w32}
 use mir.Val.{toZ, ofZ}
-use Rattle.zint.proofs.Bound.{back-abs}
-use Rattle.zint.proofs.Range.{inside-abs}
+use Rattle.signed.proofs.Bound.{back-abs}
+use Rattle.signed.proofs.Range.{inside-abs}
 use Rattle.lists.specs.Fill.{filled}
 use Rattle.lists.specs.Block.{rows, sample, block}
 use Rattle.lists.proofs.Fill.{filled-none}

@@ -3,7 +3,7 @@ use native.Mathlib.Omega.{arith}
 use mathlib.Core.Path.{ap}
 use mir.Syntax.{w32}
 use Rattle.lists.specs.Block.{sample}
-use Rattle.zint.proofs.Bound.{back-abs, exact}
+use Rattle.signed.proofs.Bound.{back-abs, exact}
 use Rattle.directional.proofs.copies.to_sample.Statement.{statement}
 use Rattle.directional.proofs.copies.to_sample.Tie as tie
 

@@ -12,10 +12,10 @@ use Rattle.numbers.specs.Depth.{most}
 use Rattle.numbers.specs.Dir.{angleOf}
 use Rattle.numbers.proofs.Agree.{depth-no, depth-back}
 use Rattle.numbers.proofs.Angle.{angle-range}
-use Rattle.zint.proofs.Bound.{back}
-use Rattle.zint.proofs.Range.{pos-inside}
+use Rattle.signed.proofs.Bound.{back}
+use Rattle.signed.proofs.Range.{pos-inside}
 use Rattle.lists.specs.Block.{block}
-use Rattle.calls.proofs.Accepted.{depth-most}
+use Rattle.direct_calls.proofs.Accepted.{depth-most}
 use Rattle.directional.specs.Directional.{directionalAt}
 use Rattle.directional.specs.Words.{settingOf}
 use Rattle.directional.proofs.turned.turned_into.Statement.{statement}

@@ -11,7 +11,7 @@ use Rattle.numbers.specs.Depth.{most}
 use Rattle.numbers.specs.Dir.{isDir, isDelta, deltaOf, angleOf, dirOf}
 use Rattle.numbers.proofs.Agree.{dir-no}
 use Rattle.numbers.proofs.Angle.{delta-small}
-use Rattle.zint.proofs.Bound.{back}
+use Rattle.signed.proofs.Bound.{back}
 use Rattle.lists.specs.Block.{block}
 use Rattle.directional.specs.Words.{angleFrom, settingOf}
 use Rattle.directional.specs.Directional.{directionalAt}

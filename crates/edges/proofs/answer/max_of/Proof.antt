@@ -6,7 +6,7 @@ use lib.IntN.{pos}
 use mir.Syntax.{w32}
 use Rattle.numbers.specs.Depth.{most}
 use Rattle.numbers.proofs.Agree.{depth-no, depth-back}
-use Rattle.zint.proofs.Bound.{back}
+use Rattle.signed.proofs.Bound.{back}
 use Rattle.edges.proofs.answer.max_of.Statement.{statement}
 use Rattle.edges.proofs.answer.max_of.Tie as tie
 

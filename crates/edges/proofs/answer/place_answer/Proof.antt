@@ -4,8 +4,8 @@ use borrow.Author.Tests.{not-true, not-false}
 use mathlib.Core.Path.{_≡_, refl, sym, _∙_}
 use mathlib.Core.List.{[], _∷_}
 use Rattle.numbers.specs.declared.answer.Answer.the-variants.{NoNeighbour, BadBase}
-use Rattle.ladder.specs.Ladder.{_else_, ladder}
-use Rattle.ladder.proofs.Ladder.{kept, broken}
+use Rattle.refusals.specs.Ladder.{_else_, ladder}
+use Rattle.refusals.proofs.Ladder.{kept, broken}
 use Rattle.edges.specs.Rules.{hasNeighbours, isBase, placeRules}
 use Rattle.edges.proofs.answer.place_answer.Statement.{statement}
 use Rattle.edges.proofs.answer.place_answer.Tie as tie

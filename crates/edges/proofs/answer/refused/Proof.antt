@@ -9,9 +9,9 @@ use mir.Syntax.{w32}
 use Rattle.numbers.specs.Answer.{isDone}
 use Rattle.numbers.specs.declared.answer.Answer.{Answer}
 use Rattle.numbers.specs.declared.answer.Answer.the-variants.{ShortList}
-use Rattle.zint.proofs.Bound.{back}
-use Rattle.ladder.specs.Ladder.{Rule, _else_, ladder}
-use Rattle.ladder.proofs.Ladder.{AllKept, kept, broken, all-of, segment-kept, segment-broken}
+use Rattle.signed.proofs.Bound.{back}
+use Rattle.refusals.specs.Ladder.{Rule, _else_, ladder}
+use Rattle.refusals.proofs.Ladder.{AllKept, kept, broken, all-of, segment-kept, segment-broken}
 use Rattle.edges.specs.Rules.{isPlane, outputsLong, sizeRules, placeRules, readRules, refsAnswer}
 use Rattle.edges.specs.Placed.{Placed}
 use Rattle.edges.proofs.Placed.{standing, placed}

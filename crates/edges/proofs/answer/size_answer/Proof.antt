@@ -5,8 +5,8 @@ use mathlib.Core.List.{[], _∷_}
 use Rattle.numbers.specs.Depth.{isDepth}
 use Rattle.numbers.specs.declared.answer.Answer.the-variants.{BadDepth}
 use Rattle.numbers.proofs.Agree.{size-yes, size-no, depth-yes, depth-no}
-use Rattle.ladder.specs.Ladder.{_else_, ladder}
-use Rattle.ladder.proofs.Ladder.{kept, broken}
+use Rattle.refusals.specs.Ladder.{_else_, ladder}
+use Rattle.refusals.proofs.Ladder.{kept, broken}
 use Rattle.edges.specs.Rules.{sizeRules}
 use Rattle.edges.proofs.answer.size_answer.Statement.{statement}
 use Rattle.edges.proofs.answer.size_answer.Tie as tie

@@ -7,7 +7,7 @@ use native.Mathlib.Omega.{arith}
 use lib.ListN.{length}
 use mir.Syntax.{w32}
 use Rattle.numbers.specs.Depth.{most}
-use Rattle.zint.proofs.Bound.{back}
+use Rattle.signed.proofs.Bound.{back}
 use Rattle.edges.specs.declared.side.Side.{Side}
 use Rattle.edges.specs.Behind.{Behind, aboveBehind, leftBehind, cornerBehind}
 use Rattle.edges.specs.Rules.{behindInRange}

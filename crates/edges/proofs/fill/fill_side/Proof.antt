@@ -9,10 +9,10 @@ use lib.IntN.{ℤ, pos}
 use lib.Ieee.{Float}
 use lib.ListN.{length}
 use mir.Syntax.{w32}
-use Rattle.zint.proofs.Bound.{back}
-use Rattle.line.specs.Along.{along}
-use Rattle.line.specs.Run.{runAt, Line}
-use Rattle.line.specs.Edge.{edgeOf}
+use Rattle.signed.proofs.Bound.{back}
+use Rattle.edge_line.specs.Along.{along}
+use Rattle.edge_line.specs.Run.{runAt, Line}
+use Rattle.edge_line.specs.Edge.{edgeOf}
 use Rattle.samples.specs.Sample.{reading, Readable}
 use Rattle.edges.specs.declared.side.Side.{Side}
 use Rattle.edges.specs.declared.side.Spot.the-variants.{Sample}

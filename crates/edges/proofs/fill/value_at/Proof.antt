@@ -5,7 +5,7 @@ use Prim.Native.Nat.{_<_}
 use lib.Ieee.{nan}
 use lib.ListN.{length, getD}
 use mir.Syntax.{w32}
-use Rattle.zint.proofs.Bound.{back}
+use Rattle.signed.proofs.Bound.{back}
 use Rattle.samples.specs.Sample.{Readable}
 use Rattle.edges.specs.Side.{spotValue, SpotLies, SpotReadable}
 use Rattle.edges.proofs.fill.value_at.Statement.{statement}

@@ -7,8 +7,8 @@ use lib.ListN.{length}
 use mir.Syntax.{w32}
 use mir.Val.{toZ, ofZ}
 use Rattle.numbers.specs.Depth.{most}
-use Rattle.zint.specs.Range.{inside}
-use Rattle.zint.proofs.Bound.{back}
+use Rattle.signed.specs.Range.{inside}
+use Rattle.signed.proofs.Bound.{back}
 use Rattle.edges.specs.Behind.{aboveBehind, leftBehind}
 use Rattle.edges.specs.Side.{spotInRange, SpotLies, SideLies, aboveSide, leftSide}
 use Rattle.edges.specs.Rules.{edgeRead, allRead}

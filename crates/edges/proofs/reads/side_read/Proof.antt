@@ -7,13 +7,13 @@ use lib.IntN.{pos}
 use lib.ListN.{length}
 use mir.Syntax.{w32}
 use mir.Val.{toZ, ofZ}
-use Rattle.zint.specs.Range.{inside}
-use Rattle.zint.proofs.Bound.{back}
+use Rattle.signed.specs.Range.{inside}
+use Rattle.signed.proofs.Bound.{back}
 use Rattle.samples.specs.Sample.{isSample}
-use Rattle.line.specs.Along.{along}
-use Rattle.line.specs.Run.{runAt, Line}
-use Rattle.line.specs.Every.{every}
-use Rattle.line.proofs.Every.{every-flat}
+use Rattle.edge_line.specs.Along.{along}
+use Rattle.edge_line.specs.Run.{runAt, Line}
+use Rattle.edge_line.specs.Every.{every}
+use Rattle.edge_line.proofs.Every.{every-flat}
 use Rattle.edges.specs.declared.side.Spot.the-variants.{Sample}
 use Rattle.edges.specs.Side.{spotInRange, sideSpot}
 use Rattle.edges.proofs.reads.side_read.Statement.{statement}

@@ -10,7 +10,7 @@ use lib.IntN.{pos}
 use lib.Signed.{ltZ}
 use mir.Syntax.{w32}
 use Rattle.numbers.specs.Depth.{most}
-use Rattle.zint.proofs.Bound.{back}
+use Rattle.signed.proofs.Bound.{back}
 use Rattle.edges.specs.declared.spec.IntraRefSpec.{IntraRefSpec}
 use Rattle.edges.specs.Rules.{isBase}
 use Rattle.edges.proofs.rules.is_base.Statement.{statement}

@@ -2,7 +2,7 @@
 use mathlib.Core.Path.{sym, _∙_, ap}
 use mathlib.Core.Bool.{cond}
 use mir.Syntax.{w32}
-use Rattle.zint.proofs.Bound.{back}
+use Rattle.signed.proofs.Bound.{back}
 use Rattle.edges.specs.declared.side.Spot.the-variants.{Sample, Number}
 use Rattle.edges.proofs.side.spot_of.Statement.{statement}
 use Rattle.edges.proofs.side.spot_of.Tie as tie

@@ -5,7 +5,7 @@ use Rattle.elimination.specs.declared.rows.Row.{Row}
 use Rattle.elimination.specs.declared.rows.Pair.{Pair}
 use Rattle.elimination.specs.Rows.{unit, reducedRow, unitPair, reducedPair}
 use Rattle.elimination.specs.Elimination.{firstRow, secondRow, thirdRow, secondPair, thirdPair}
-use Rattle.fixed.proofs.Thru.{thru}
+use Rattle.fixed_product.proofs.Thru.{thru}
 use Rattle.elimination.proofs.Read.{same, Read, read}
 use Rattle.elimination.proofs.gauss_elimination.Tie as tie
 

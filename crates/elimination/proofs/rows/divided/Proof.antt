@@ -5,11 +5,11 @@ use lib.IntN.{ℤ, natAbs}
 use mir.Syntax.{w32}
 use mir.Val.{SFits, toZ, ofZ}
 use borrow.Author.Needs.{needs, sfits-of}
-use Rattle.zint.proofs.Bound.{back}
-use Rattle.fixed.specs.Product.{ilog2}
+use Rattle.signed.proofs.Bound.{back}
+use Rattle.fixed_product.specs.Product.{ilog2}
 use Rattle.reciprocal.specs.Division.{scaleOf}
 use Rattle.elimination.specs.Rows.{unit, pivot}
-use Rattle.fixed.proofs.Bounds.{mul-pos}
+use Rattle.fixed_product.proofs.Bounds.{mul-pos}
 use Rattle.reciprocal.proofs.Range.{scale-range, scale-fits}
 use Rattle.elimination.proofs.rows.divided.Statement.{statement}
 use Rattle.elimination.proofs.rows.divided.Tie as tie

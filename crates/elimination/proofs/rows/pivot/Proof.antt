@@ -4,7 +4,7 @@ use native.Mathlib.Omega.{arith}
 use lib.IntN.{natAbs}
 use mir.Syntax.{w32}
 use borrow.Author.Needs.{needs}
-use Rattle.zint.proofs.Bound.{back}
+use Rattle.signed.proofs.Bound.{back}
 use Rattle.elimination.proofs.rows.pivot.Statement.{statement}
 use Rattle.elimination.proofs.rows.pivot.Tie as tie
 

@@ -2,8 +2,8 @@
 use mathlib.Core.Path.{_≡_, ap, _∙_}
 use mir.Syntax.{w32}
 use borrow.Author.Needs.{needs}
-use Rattle.zint.proofs.Bound.{back}
-use Rattle.fixed.specs.Product.{ilog2}
+use Rattle.signed.proofs.Bound.{back}
+use Rattle.fixed_product.specs.Product.{ilog2}
 use Rattle.reciprocal.specs.Division.{scaleOf}
 use Rattle.elimination.specs.Rows.{pivot}
 use Rattle.elimination.proofs.rows.reciprocal.Statement.{statement}

@@ -6,10 +6,10 @@ use lib.IntN.{ℤ, natAbs, _-ℤ_}
 use mir.Syntax.{w32}
 use mir.Val.{SFits, toZ, ofZ}
 use borrow.Author.Needs.{needs, sfits-of}
-use Rattle.zint.proofs.Bound.{abs-sub, sfits-abs, back}
-use Rattle.fixed.specs.Product.{mulFixed}
+use Rattle.signed.proofs.Bound.{abs-sub, sfits-abs, back}
+use Rattle.fixed_product.specs.Product.{mulFixed}
 use Rattle.elimination.specs.Rows.{reduced}
-use Rattle.fixed.proofs.Bounds.{mul-late}
+use Rattle.fixed_product.proofs.Bounds.{mul-late}
 use Rattle.elimination.proofs.rows.reduced.Statement.{statement}
 use Rattle.elimination.proofs.rows.reduced.Tie as tie
 

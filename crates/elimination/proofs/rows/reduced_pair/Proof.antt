@@ -4,7 +4,7 @@ use native.Mathlib.Omega.{arith}
 use lib.IntN.{natAbs}
 use mir.Syntax.{w32}
 use borrow.Author.Needs.{sfits-of}
-use Rattle.zint.proofs.Bound.{back}
+use Rattle.signed.proofs.Bound.{back}
 use Rattle.elimination.specs.declared.rows.Pair.{Pair}
 use Rattle.elimination.specs.Rows.{reduced}
 use Rattle.elimination.proofs.Calls.{Got, got-reduced}

@@ -10,8 +10,8 @@ use Rattle.numbers.specs.Mode.{isFound}
 use Rattle.numbers.specs.declared.answer.Answer.{Answer}
 use Rattle.numbers.specs.declared.answer.Answer.the-variants.{BadMode, NoDifferences}
 use Rattle.numbers.specs.declared.mode.FoundMode.the-variants.{Is}
-use Rattle.ladder.specs.Ladder.{Rule, _else_, ladder}
-use Rattle.ladder.proofs.Ladder.{kept, broken, all-of, segment-kept, segment-broken}
+use Rattle.refusals.specs.Ladder.{Rule, _else_, ladder}
+use Rattle.refusals.proofs.Ladder.{kept, broken, all-of, segment-kept, segment-broken}
 use Rattle.edges.specs.Rules.{sizeRules, placeRules}
 use Rattle.job.specs.Row.{specOf}
 use Rattle.job.specs.Mode.{isMode, rowMode}

@@ -8,7 +8,7 @@ use lib.ListN.{length, getD}
 use lib.IntN.{ℤ, pos, natAbs}
 use mir.Syntax.{w32}
 use mir.Val.{toZ, ofZ}
-use Rattle.zint.proofs.Bound.{back-abs}
+use Rattle.signed.proofs.Bound.{back-abs}
 use Rattle.lists.specs.Fill.{tab}
 use Rattle.kernels.specs.Kernel.{five, kernel, Five}
 use Rattle.kernels.proofs.Taps.{kernel-five}

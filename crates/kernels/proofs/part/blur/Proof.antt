@@ -6,7 +6,7 @@ use lib.IntN.{ℤ, pos, _+ℤ_, _*ℤ_}
 use lib.Signed.{shrZ}
 use mir.Syntax.{w32}
 use mir.Val.{SFits}
-use Rattle.zint.proofs.Bound.{b-abs, b-pos, b-add, b-mul, b-shr, b-fits}
+use Rattle.signed.proofs.Bound.{b-abs, b-pos, b-add, b-mul, b-shr, b-fits}
 use Rattle.kernels.specs.Kernel.{taps5}
 use Rattle.kernels.proofs.part.blur.Statement.{statement}
 use Rattle.kernels.proofs.part.blur.Tie as tie

@@ -7,8 +7,8 @@ use lib.IntN.{pos}
 use mir.Syntax.{w32}
 use mir.Val.{toZ, ofZ}
 use Rattle.lists.specs.Fill.{filled}
-use Rattle.zint.proofs.Bound.{back-abs}
-use Rattle.zint.proofs.Range.{inside-abs}
+use Rattle.signed.proofs.Bound.{back-abs}
+use Rattle.signed.proofs.Range.{inside-abs}
 use Rattle.lists.proofs.Fill.{filled-none, filled-more, filled-all}
 use Rattle.kernels.proofs.part.copy_part.Statement.{statement}
 use Rattle.kernels.proofs.part.copy_part.Tie as tie

@@ -1,6 +1,6 @@
 -- `latch_run_job` meets its contract: the call's promise, with its answer's number. Assumes nothing.
 use borrow.Author.Needs.{needs}
-use Rattle.ladder.proofs.Promise.{numbered}
+use Rattle.refusals.proofs.Promise.{numbered}
 use Rattle.latch.proofs.jobs.latch_run_job.Statement.{statement}
 use Rattle.latch.proofs.jobs.latch_run_job.Tie as tie
 

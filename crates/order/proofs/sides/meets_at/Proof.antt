@@ -6,7 +6,7 @@ use lib.IntN.{pos}
 use lib.ListN.{getD}
 use lib.Signed.{ltZ}
 use mir.Syntax.{w16}
-use Rattle.zint.proofs.Bound.{back}
+use Rattle.signed.proofs.Bound.{back}
 use Rattle.order.specs.Sides.{overlap}
 use Rattle.order.proofs.sides.meets_at.Statement.{statement}
 use Rattle.order.proofs.sides.meets_at.Tie as tie

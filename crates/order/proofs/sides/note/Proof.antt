@@ -4,7 +4,7 @@ use Prim.Native.Nat.{_+_}
 use borrow.Author.Needs.{sfits-of, needs}
 use lib.ListN.{set, length-set}
 use mir.Syntax.{w16}
-use Rattle.zint.proofs.Bound.{back}
+use Rattle.signed.proofs.Bound.{back}
 use Rattle.order.specs.Sides.{noted}
 use Rattle.order.proofs.sides.note.Statement.{statement}
 use Rattle.order.proofs.sides.note.Tie as tie

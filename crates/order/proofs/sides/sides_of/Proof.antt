@@ -2,7 +2,7 @@
 use Prim.Native.Nat.{_+_}
 use native.Mathlib.Omega.{arith}
 use mir.Syntax.{w16}
-use Rattle.zint.proofs.Bound.{back-pos}
+use Rattle.signed.proofs.Bound.{back-pos}
 use borrow.Author.Needs.{needs}
 use Rattle.order.proofs.sides.sides_of.Statement.{statement}
 use Rattle.order.proofs.sides.sides_of.Tie as tie

@@ -11,8 +11,8 @@ use mir.Val.{toZ, ofZ}
 use mir.Facts.{toZ-ofZ}
 use Rattle.lists.specs.Fill.{filled}
 use Rattle.lists.specs.Block.{rows, sample, block}
-use Rattle.zint.proofs.Bound.{back-abs}
-use Rattle.zint.proofs.Range.{inside-abs}
+use Rattle.signed.proofs.Bound.{back-abs}
+use Rattle.signed.proofs.Range.{inside-abs}
 use Rattle.lists.proofs.Fill.{filled-none}
 use Rattle.lists.proofs.Block.{filled-row, part-length}
 use Rattle.lists.proofs.RowLoop.{row-room, all-rows}

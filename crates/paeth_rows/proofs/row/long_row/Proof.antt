@@ -11,8 +11,8 @@ use mir.Val.{toZ, ofZ}
 use mir.Facts.{toZ-ofZ}
 use Rattle.lists.specs.Fill.{tab, filled}
 use Rattle.lists.specs.Block.{sample}
-use Rattle.zint.proofs.Bound.{back-abs}
-use Rattle.zint.proofs.Range.{inside-abs}
+use Rattle.signed.proofs.Bound.{back-abs}
+use Rattle.signed.proofs.Range.{inside-abs}
 use Rattle.lists.proofs.Fill.{filled-none, filled-more, filled-all}
 use Rattle.paeth_rows.specs.Chosen.{chosen}
 use Rattle.paeth_rows.proofs.row.long_row.Statement.{statement}

@@ -8,8 +8,8 @@ use lib.ListN.{getD, length-set}
 use mir.Facts.{toZ-ofZ}
 use mir.Syntax.{w32}
 use mir.Val.{toZ, ofZ}
-use Rattle.zint.proofs.Bound.{back-abs}
-use Rattle.zint.proofs.Range.{inside-abs}
+use Rattle.signed.proofs.Bound.{back-abs}
+use Rattle.signed.proofs.Range.{inside-abs}
 use Rattle.lists.specs.Block.{sample}
 use Rattle.lists.proofs.Block.{four-stores}
 use Rattle.paeth_rows.specs.Chosen.{chosen}

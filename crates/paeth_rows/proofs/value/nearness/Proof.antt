@@ -4,8 +4,8 @@ use mathlib.Core.Path.{_∙_, ap}
 use mir.Facts.{toZ-ofZ}
 use mir.Syntax.{w32}
 use lib.IntN.{pos, negℤ, _-ℤ_}
-use Rattle.zint.proofs.Bound.{abs-sub, abs-swap, sub-down, sfits-abs}
-use Rattle.zint.proofs.Order.{le-of-lt, le-of-not-lt}
+use Rattle.signed.proofs.Bound.{abs-sub, abs-swap, sub-down, sfits-abs}
+use Rattle.signed.proofs.Order.{le-of-lt, le-of-not-lt}
 use Rattle.paeth_rows.proofs.value.nearness.Statement.{statement}
 use Rattle.paeth_rows.proofs.value.nearness.Tie as tie
 

@@ -6,7 +6,7 @@ use lib.IntN.{natAbs}
 use mir.Facts.{toZ-ofZ}
 use mir.Syntax.{w32}
 use Rattle.lists.specs.Block.{sample}
-use Rattle.zint.proofs.Bound.{back-abs, exact}
+use Rattle.signed.proofs.Bound.{back-abs, exact}
 use Rattle.paeth_rows.specs.Chosen.{chosen}
 use Rattle.paeth_rows.proofs.Laws.{chosen-small}
 use Rattle.paeth_rows.proofs.value.paeth_sample.Statement.{statement}

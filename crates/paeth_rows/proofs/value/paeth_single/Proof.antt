@@ -6,8 +6,8 @@ use mir.Facts.{toZ-ofZ}
 use mir.Syntax.{w32}
 use mir.Val.{SFits, toZ, ofZ}
 use lib.IntN.{_+ℤ_}
-use Rattle.zint.proofs.Bound.{sfits-abs}
-use Rattle.zint.proofs.Order.{le-neg}
+use Rattle.signed.proofs.Bound.{sfits-abs}
+use Rattle.signed.proofs.Order.{le-neg}
 use Rattle.paeth_rows.specs.Chosen.{chosen}
 use Rattle.paeth_rows.proofs.Laws.{from-corner, chosen-small}
 use Rattle.paeth_rows.proofs.value.paeth_single.Statement.{statement}

@@ -6,7 +6,7 @@ use mathlib.Core.Path.{refl, sym, _∙_, ap}
 use lib.ListN.{length, length-set}
 use Rattle.lists.proofs.Block.{part-length}
 use Rattle.edges.specs.Rules.{isPlane}
-use Rattle.work.proofs.Laws.{keeps}
+use Rattle.job_work.proofs.Laws.{keeps}
 use Rattle.numbers.proofs.Place.{answer-most}
 use Rattle.plan.proofs.Steps.{none-done, all-done, one-more}
 use Rattle.plan.proofs.rows.run_rows.Proof.Loop.{Inv-loop, μ-loop, t, entry, row-in, slot-in, low, row-is}

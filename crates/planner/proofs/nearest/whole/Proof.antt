@@ -4,9 +4,9 @@ use mathlib.Core.Path.{_≡_, refl, sym, _∙_}
 use mathlib.Core.Bool.{true}
 use lib.IntN.{pos}
 use mir.Syntax.{w32}
-use Rattle.zint.proofs.Bound.{back-abs}
+use Rattle.signed.proofs.Bound.{back-abs}
 use Rattle.numbers.specs.Depth.{isDepth}
-use Rattle.zint.specs.Range.{inside}
+use Rattle.signed.specs.Range.{inside}
 use Rattle.samples.specs.Sample.{reading, Readable}
 use Rattle.samples.proofs.Reading.{reading-small}
 use borrow.Author.Needs.{needs}

@@ -4,7 +4,7 @@ use native.Mathlib.Omega.{arith}
 use lib.IntN.{pos}
 use mir.Syntax.{w32}
 use borrow.Author.Needs.{needs}
-use Rattle.zint.proofs.Bound.{back-pos, exact}
+use Rattle.signed.proofs.Bound.{back-pos, exact}
 use Rattle.series.proofs.kind.sample.Statement.{statement}
 use Rattle.series.proofs.kind.sample.Tie as tie
 

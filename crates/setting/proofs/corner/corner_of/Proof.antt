@@ -9,8 +9,8 @@ use lib.Signed.{shrZ}
 use mir.Syntax.{w32}
 use mir.Val.{SFits}
 use mir.Facts.{toZ-ofZ}
-use Rattle.zint.proofs.Range.{inside-abs}
-use Rattle.zint.proofs.Bound.{Bound, b-lit, b-add, b-mul, b-shr, b-fits}
+use Rattle.signed.proofs.Range.{inside-abs}
+use Rattle.signed.proofs.Bound.{Bound, b-lit, b-add, b-mul, b-shr, b-fits}
 use Rattle.setting.specs.Corner.{cornerOf}
 use Rattle.setting.proofs.corner.corner_of.Statement.{statement}
 use Rattle.setting.proofs.corner.corner_of.Tie as tie

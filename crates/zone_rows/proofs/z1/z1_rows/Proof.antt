@@ -2,7 +2,7 @@
 use borrow.Author.Needs.{needs}
 use mathlib.Core.Path.{sym, _∙_, ap}
 use mir.Facts.{toZ-ofZ}
-use Rattle.interp.specs.Quads.{tableOf}
+use Rattle.interpolation.specs.Quads.{tableOf}
 use Rattle.zone_rows.proofs.z1.z1_rows.Statement.{statement}
 use Rattle.zone_rows.proofs.z1.z1_rows.Tie as tie
 

@@ -2,7 +2,7 @@
 use borrow.Author.Needs.{needs}
 use mathlib.Core.Path.{sym, _∙_, ap}
 use mir.Facts.{toZ-ofZ}
-use Rattle.interp.specs.Quads.{tableOf}
+use Rattle.interpolation.specs.Quads.{tableOf}
 use Rattle.zones.proofs.z2.z2_strips.Statement.{statement}
 use Rattle.zones.proofs.z2.z2_strips.Tie as tie
 

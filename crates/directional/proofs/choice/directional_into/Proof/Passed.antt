@@ -4,10 +4,10 @@ use mathlib.Core.Path.{_≡_, sym, _∙_}
 use mathlib.Core.Bool.{true, false}
 use lib.IntN.{pos, natAbs}
 use Prim.Native.Nat.{ℕ, _*_, _≤_, _<_}
-use Rattle.zint.specs.Range.{inside, Edge}
-use Rattle.calls.specs.Given.{Given}
-use Rattle.calls.proofs.Given.{given-more}
-use Rattle.zint.proofs.Range.{inside-abs}
+use Rattle.signed.specs.Range.{inside, Edge}
+use Rattle.direct_calls.specs.Given.{Given}
+use Rattle.direct_calls.proofs.Given.{given-more}
+use Rattle.signed.proofs.Range.{inside-abs}
 use Rattle.zone_rows.specs.Listed.{Fours}
 use Rattle.directional.specs.Directional.{isDown, isAcross}
 use Rattle.directional.proofs.Named.{fours}

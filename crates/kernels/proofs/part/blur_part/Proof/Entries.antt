@@ -9,8 +9,8 @@ use lib.IntN.{ℤ, pos, natAbs}
 use mir.Syntax.{w32}
 use mir.Val.{toZ, ofZ}
 use Rattle.lists.specs.Fill.{filled}
-use Rattle.zint.proofs.Bound.{back-abs}
-use Rattle.zint.proofs.Range.{inside-abs}
+use Rattle.signed.proofs.Bound.{back-abs}
+use Rattle.signed.proofs.Range.{inside-abs}
 use Rattle.kernels.specs.Kernel.{five}
 use Rattle.kernels.proofs.part.blur_part.Tie as tie
 

@@ -8,7 +8,7 @@ use mir.Syntax.{w32}
 use mir.Val.{SFits, toZ}
 use borrow.Author.Needs.{needs}
 use borrow.Author.Tests.{leb-true}
-use Rattle.zint.proofs.Bound.{abs-sub, sfits-abs, back-pos}
+use Rattle.signed.proofs.Bound.{abs-sub, sfits-abs, back-pos}
 use Rattle.numbers.specs.Dir.{isDelta, deltaOf}
 use Rattle.numbers.proofs.dir.Dir.delta.Statement.{statement}
 use Rattle.numbers.proofs.dir.Dir.delta.Tie as tie

@@ -2,7 +2,7 @@
 use native.Mathlib.Omega.{arith}
 use mir.Syntax.{w32}
 use borrow.Author.Needs.{needs}
-use Rattle.zint.proofs.Bound.{back-pos}
+use Rattle.signed.proofs.Bound.{back-pos}
 use Rattle.numbers.specs.Dir.{isDelta}
 use Rattle.numbers.proofs.dir.Dir.is_delta.Statement.{statement}
 use Rattle.numbers.proofs.dir.Dir.is_delta.Tie as tie

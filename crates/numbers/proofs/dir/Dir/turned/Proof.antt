@@ -8,7 +8,7 @@ use mir.Facts.{toZ-ofZ}
 use mir.Syntax.{w32}
 use mir.Val.{SFits, toZ, ofZ}
 use borrow.Author.Needs.{needs, sfits-of}
-use Rattle.zint.proofs.Bound.{sfits-abs, back, back-abs}
+use Rattle.signed.proofs.Bound.{sfits-abs, back, back-abs}
 use Rattle.numbers.specs.Dir.{angleOf}
 use Rattle.numbers.proofs.Angle.{step-small, angle-pos, angle-range}
 use Rattle.numbers.proofs.dir.Dir.turned.Statement.{statement}

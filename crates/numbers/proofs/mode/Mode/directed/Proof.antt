@@ -8,7 +8,7 @@ use Rattle.numbers.specs.Dir.{dirOf, isDelta, deltaOf}
 use Rattle.numbers.specs.declared.dir.Dir.{Dir}
 use Rattle.numbers.specs.declared.dir.FoundDir.the-variants as found-dir
 use Rattle.numbers.specs.declared.mode.Mode.the-variants.{Directional}
-use Rattle.zint.proofs.Bound.{back}
+use Rattle.signed.proofs.Bound.{back}
 use Rattle.numbers.specs.Mode.{directedMode}
 use Rattle.numbers.specs.declared.mode.FoundMode.the-variants.{Is, NoMode}
 use Rattle.numbers.proofs.mode.Mode.directed.Statement.{statement}

@@ -8,7 +8,7 @@ use mir.Syntax.{w32}
 use mir.Val.{SFits, toZ, ofZ}
 use lib.IntN.{ℤ, pos, natAbs, negℤ, _+ℤ_, _-ℤ_}
 use Prim.Native.Nat.{_≤_}
-use Rattle.zint.proofs.Bound.{abs-add, abs-sub, sfits-abs}
+use Rattle.signed.proofs.Bound.{abs-add, abs-sub, sfits-abs}
 use Rattle.paeth_rows.proofs.Laws.{less-none}
 use Rattle.paeth_rows.proofs.value.paeth_single.Tie as tie
 

@@ -14,11 +14,11 @@ use mir.Val.{toZ, ofZ}
 use mir.Facts.{toZ-ofZ}
 use borrow.Author.Tests.{le-leb, lt-leb}
 use borrow.Rule.Slice.PartMut.{putMid}
-use Rattle.zint.specs.Range.{Edge}
+use Rattle.signed.specs.Range.{Edge}
 use Rattle.lists.specs.Fill.{tab, filled}
 use Rattle.lists.specs.Block.{sample}
 use Rattle.lists.proofs.Fill.{filled-none, filled-part}
-use Rattle.interp.specs.Interp.{between}
+use Rattle.interpolation.specs.Interp.{between}
 use Rattle.zone_rows.specs.Listed.{listed}
 use Rattle.zones.proofs.split.split_row.Tie as tie
 
