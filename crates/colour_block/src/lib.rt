@@ -2,9 +2,9 @@
 // 9, 13 in that order.
 mod block;
 
-use numbers::answer::Answer;
 use colour_rules::block::Block;
 use colour_sums::window::Window;
+use numbers::answer::Answer;
 ghost use Rattle.colour_block.specs.Predicted.{blockOf, PredictedBlock};
 
 // Done, with the block in out[..width * height], or a refusal, with nothing written.

@@ -1,10 +1,10 @@
 // What `derive_params` tests before it looks at a sample (document 01, Refusal numbers): 10, 11, 12, 9.
-use numbers::answer::Answer;
-use numbers::colour::ColourDirection;
-use numbers::colour::FoundColour;
 use colour_sums::window::Window;
 use colour_terms::reference;
 use colour_terms::reference::Reference;
+use numbers::answer::Answer;
+use numbers::colour::ColourDirection;
+use numbers::colour::FoundColour;
 ghost use mathlib.Core.Path.{_≡_};
 ghost use Rattle.refusals.specs.Ladder.{ladder};
 ghost use Rattle.colour_params.specs.Rules.{areReferences, windowRules};

@@ -1,7 +1,7 @@
 // "Sums are shifted by 22 - 2D - ceil(log2 count), so each ends at or below 2^22." (document 01, Colour parameters)
+use colour_sums::nine::Nine;
 use elimination::Sums;
 use fixed_product::product;
-use colour_sums::nine::Nine;
 ghost use mathlib.Core.Path.{_≡_};
 ghost use Prim.Native.Nat.{_^_, _≤_};
 ghost use lib.IntN.{pos};

@@ -1,8 +1,8 @@
 // Refusal 14, and the parameters from sums that it lets pass (document 01, Colour parameters).
 use crate::shift;
+use colour_sums::nine::Nine;
 use elimination::Params;
 use numbers::depth::Depth;
-use colour_sums::nine::Nine;
 ghost use mathlib.Core.Path.{_≡_};
 ghost use Prim.Native.Nat.{_*_, _≤_};
 ghost use Rattle.numbers.specs.Depth.{bitsOf, most};

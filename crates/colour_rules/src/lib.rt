@@ -4,9 +4,9 @@ mod place;
 mod range;
 
 use crate::block::Block;
+use colour_terms::reference;
 use numbers::answer::Answer;
 use numbers::depth::FoundDepth;
-use colour_terms::reference;
 ghost use mathlib.Core.Path.{_≡_};
 ghost use Rattle.colour_rules.specs.Rules.{predictAnswer};
 

@@ -2,8 +2,8 @@
 // inside the above lines, then the first columns of the rows below them. Places that cannot count are not visited.
 use crate::lines::Lines;
 use crate::window::Window;
-use numbers::colour::ColourDirection;
 use colour_terms::reference::Reference;
+use numbers::colour::ColourDirection;
 ghost use mathlib.Core.Path.{_≡_};
 ghost use Prim.Native.Nat.{_-_, _≤_};
 ghost use Rattle.colour_terms.specs.Reference.{mostLines};
