@@ -1,3 +1,3 @@
--- The code's rectangles, and the hull of a job.
+-- What the code goes by: its rectangles, and the hull of a job. What a clash is stands in `reorder` and `job`.
 pub mod Hull
 pub mod Rects

@@ -1,4 +1,5 @@
--- One job of a plan: its row, what is tested, and what it reads and writes.
+-- One job of a plan: its row, what is tested, and what it reads and writes, all to be believed but Rects, the same samples by rectangles, which the code
+-- goes by.
 pub mod Row
 pub mod Mode
 pub mod Rules

@@ -6,6 +6,7 @@ use Prim.Native.Nat.{ℕ, _+_, _*_, _≤_}
 use lib.IntN.{ℤ}
 use lib.Ieee.{Float}
 use lib.ListN.{length}
+use Rattle.numbers.specs.Mode.{DeltaInRange}
 use Rattle.numbers.specs.declared.answer.Answer.{Answer}
 use Rattle.refusals.specs.Ladder.{ladder}
 use Rattle.refusals.specs.Promise.{lent}
@@ -15,12 +16,11 @@ use Rattle.job.specs.Touches.{blockAt}
 use Rattle.job.specs.declared.job.Job.{Job}
 use Rattle.job_work.specs.Written.{writtenAt}
 use Rattle.paint.specs.Painted.{painted}
-use Rattle.modes.specs.Ready.{Turns}
 
 -- 1 to 7 do not refuse it, over a plane of W by H samples, `size` in all, with n differences
 pub record Tested (W n size : ℕ) (job : Job) : Type 0 where
   pub place : Placed size W (job .spec)
-  pub turns : Turns (job .mode)
+  pub turns : DeltaInRange (job .mode)
   pub enough : job .start + job .spec .b * job .spec .b ≤ n
 
 -- and 8 does not

@@ -3,60 +3,46 @@ use mathlib.Core.Path.{_≡_, refl, sym, _∙_, ap, subst}
 use mathlib.Core.Bool.{Bool, true, false, cond}
 use mathlib.Core.List.{List}
 use Prim.Native.Nat.{ℕ, _≤_}
-use lib.Dec.{eqb}
 use lib.IntN.{ℤ, pos, natAbs}
 use lib.Ieee.{Float}
 use Rattle.numbers.specs.Depth.{isDepth, most}
-use Rattle.numbers.specs.Dir.{dirOf, isDelta, deltaOf}
 use Rattle.numbers.specs.Flag.{noStray}
 use Rattle.numbers.specs.declared.dir.Dir.{Dir}
-use Rattle.numbers.specs.declared.dir.FoundDir.{FoundDir}
-use Rattle.numbers.specs.declared.dir.FoundDir.the-variants as found-dir
 use Rattle.numbers.specs.declared.mode.Mode.{Mode}
 use Rattle.numbers.specs.declared.mode.Mode.the-variants.{Directional}
 use Rattle.numbers.specs.declared.word.Word.the-variants.{ModeWord, DirectionWord, DeltaWord, FlagWord}
-use Rattle.numbers.proofs.Angle.{delta-small}
+use Rattle.numbers.proofs.Modes.{mode-back}
 use Rattle.lists.specs.Block.{block}
 use Rattle.direct_calls.specs.Given.{Given}
 use Rattle.direct_calls.proofs.Accepted.{depth-most}
 use Rattle.direct_calls.proofs.Given.{given-more}
 use Rattle.smooth.proofs.Ready.{no-corner}
 use Rattle.job.specs.Row.{Row, word}
-use Rattle.numbers.specs.Mode.{directedMode, namedMode}
+use Rattle.numbers.specs.Mode.{namedMode, DeltaInRange}
 use Rattle.job.specs.Mode.{rowMode}
 use Rattle.job.specs.Job.{modeIn}
 use Rattle.job.specs.declared.job.Job.{Job}
 use Rattle.numbers.specs.declared.mode.FoundMode.{FoundMode}
 use Rattle.numbers.specs.declared.mode.FoundMode.the-variants.{Is, NoMode}
 use Rattle.modes.specs.Predictor.{predictorBy, predictorOf}
-use Rattle.modes.specs.Ready.{Turns, Ready, predictedBlock}
+use Rattle.modes.specs.Ready.{Ready, predictedBlock}
 
--- ---- the mode of a row
-abbrev InTurn : FoundMode → Type 0
-InTurn f = Turns (modeIn f)
+-- ---- the mode of a row: a direction's delta is -3 to 3
 
-either : (t : Bool) (f g : FoundMode) → InTurn f → InTurn g → InTurn (cond t f g)
-either true f g p q = p
-either false f g p q = q
+found-turns : (mode direction delta : ℕ) (f : FoundMode) → namedMode mode direction delta ≡ f → DeltaInRange (modeIn f)
+found-turns mode direction delta (Is m) e = mode-back mode direction delta m e .1
+found-turns mode direction delta NoMode e = tt
 
-directed-turns : (f : FoundDir) (delta : ℕ) → InTurn (directedMode f delta)
-directed-turns (found-dir.Is dir) delta = go (isDelta delta) refl
+pub mode-turns : (row : Row) → DeltaInRange (modeIn (rowMode row))
+unfolding rowMode
+mode-turns row = go (noStray (word row FlagWord))
   where
-    go : (b : Bool) → isDelta delta ≡ b → InTurn (cond b (Is (Directional dir (deltaOf delta))) NoMode)
-    go true e = delta-small delta e
-    go false e = tt
-directed-turns found-dir.NoDir delta = tt
+    named : FoundMode
+    named = namedMode (word row ModeWord) (word row DirectionWord) (word row DeltaWord)
 
--- a direction's delta is -3 to 3
-pub mode-turns : (row : Row) → Turns (modeIn (rowMode row))
-unfolding rowMode namedMode
-mode-turns row =
-    either (noStray (word row FlagWord)) _ _
-    (either (eqb m 0) _ _ tt (either (eqb m 1) _ _ tt (either (eqb m 2) _ _ tt (either (eqb m 3) _ _ tt (either (eqb m 4) _ _ (directed-turns (dirOf (word row DirectionWord)) (word row DeltaWord)) tt)))))
-    tt
-  where
-    m : ℕ
-    m = word row ModeWord
+    go : (t : Bool) → DeltaInRange (modeIn (cond t named NoMode))
+    go true = found-turns (word row ModeWord) (word row DirectionWord) (word row DeltaWord) named refl
+    go false = tt
 
 -- ---- what the predictors ask
 module _ {job : Job} {above left : List ℤ} {k : ℤ} {n : ℕ} (g : Ready job above left k n) where
@@ -78,4 +64,4 @@ block-is job mode above left k out after e r = r ∙ ap (λ m. block (job .spec 
 -- what a direction asks
 pub turned-asks : {job : Job} {above left : List ℤ} {k : ℤ} {n : ℕ} → Ready job above left k n → (dir : Dir) (delta : ℤ) → job .mode ≡ Directional dir delta
     → (isDepth (job .spec .d) ≡ true) × (natAbs delta ≤ 3) × Given (job .spec .b) (most (job .spec .d)) above left k n
-turned-asks g dir delta e = (g .depth, subst (λ m. Turns m) e (g .turns), g .given)
+turned-asks g dir delta e = (g .depth, subst DeltaInRange e (g .turns), g .given)

@@ -1,3 +1,3 @@
--- The predictor of a job's mode, and what it is given.
+-- The predictor of a job's mode: Predictor is to be believed, Ready is what the code is given.
 pub mod Predictor
 pub mod Ready

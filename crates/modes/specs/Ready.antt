@@ -2,29 +2,20 @@
 use mathlib.Core.Path.{_≡_}
 use mathlib.Core.Bool.{true}
 use mathlib.Core.List.{List}
-use Prim.Native.Nat.{ℕ, _≤_}
-use lib.IntN.{ℤ, natAbs}
+use Prim.Native.Nat.{ℕ}
+use lib.IntN.{ℤ}
 use lib.Ieee.{Float}
 use Rattle.numbers.specs.Depth.{isDepth, most}
-use Rattle.numbers.specs.declared.mode.Mode.{Mode}
-use Rattle.numbers.specs.declared.mode.Mode.the-variants.{Paeth, Smooth, SmoothV, SmoothH, Directional}
+use Rattle.numbers.specs.Mode.{DeltaInRange}
 use Rattle.lists.specs.Block.{block}
 use Rattle.direct_calls.specs.Given.{Given}
 use Rattle.job.specs.declared.job.Job.{Job}
 use Rattle.modes.specs.Predictor.{predictorOf}
 
--- "delta -3 to 3"
-abbrev pub Turns : Mode → Type 0
-Turns Paeth = Unit {0}
-Turns Smooth = Unit {0}
-Turns SmoothV = Unit {0}
-Turns SmoothH = Unit {0}
-Turns (Directional dir delta) = natAbs delta ≤ 3
-
 pub record Ready (job : Job) (above left : List ℤ) (k : ℤ) (n : ℕ) : Type 0 where
   pub given : Given (job .spec .b) (most (job .spec .d)) above left k n
   pub depth : isDepth (job .spec .d) ≡ true
-  pub turns : Turns (job .mode)
+  pub turns : DeltaInRange (job .mode)
 
 -- the block that the job's mode predicts
 abbrev pub predictedBlock : Job → List ℤ → List ℤ → ℤ → List Float → List Float

@@ -1,2 +1,2 @@
--- A job by itself.
+-- A job by itself: what it tests and what it leaves, to be believed.
 pub mod Single
