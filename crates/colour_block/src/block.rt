@@ -2,6 +2,7 @@
 use colour_row::mix::Mix;
 use colour_row::row;
 use colour_rules::block::Block;
+use colour_terms::reference::Reference;
 ghost use mathlib.Core.Path.{_≡_};
 ghost use mathlib.Core.Bool.{true};
 ghost use Prim.Native.Nat.{_+_, _*_};
@@ -45,7 +46,7 @@ fn step_of(b: Block, j: usize) -> usize
     requires { ⌜ isColour (b .direction) ≡ true ⌝ }
     ensures { λ r. ⌜ r ≡ stepOf b j ⌝ }
 {
-    up_at(b, j) * Block::STRIDE + b.colour().columns_left()
+    up_at(b, j) * Reference::STRIDE + b.colour().columns_left()
 }
 
 // A row in two parts: `lead` samples that take the centre, and the others.
@@ -99,13 +100,13 @@ fn lines(luma: &[i32], b: Block, k: Mix, t0: &[i64], t1: &[i64], out: &mut [i32]
     let width = b.width;
     let height = b.height;
     let lead = lead_of(b);
-    let mut s = b.above_lines * Block::STRIDE + b.left_lines;
+    let mut s = b.above_lines * Reference::STRIDE + b.left_lines;
     let mut o = 0;
     let mut j = 0;
     while j < height {
         let e = o + width;
         line(luma, s, step_of(b, j), lead, k, t0, t1, &mut out[o..e]);
-        s += Block::STRIDE;
+        s += Reference::STRIDE;
         o = e;
         j += 1;
     }

@@ -23,9 +23,6 @@ impl Block {
     // "width or height not in 1..128"
     pub const LARGEST_SIDE: usize = 128;
 
-    // Its window's lists have rows of so many entries.
-    pub const STRIDE: usize = 256;
-
     // 10: whether its direction has a name.
     pub fn has_colour(self) -> bool
         ensures { λ r. ⌜ r ≡ isColour (self .direction) ⌝ }

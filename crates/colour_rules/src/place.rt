@@ -1,5 +1,6 @@
 // Refusal 12 (document 01, Refusal numbers), what prediction tests beside the lines: the block's place, and its neighbours.
 use crate::block::Block;
+use colour_terms::reference::Reference;
 ghost use mathlib.Core.Path.{_≡_};
 ghost use mathlib.Core.Bool.{true};
 ghost use Rattle.colour_terms.specs.Reference.{isLines};
@@ -26,7 +27,7 @@ pub fn is_placed(b: Block) -> bool
     if !is_side(b.height) {
         return false;
     }
-    if Block::STRIDE < b.left_lines + b.width {
+    if Reference::STRIDE < b.left_lines + b.width {
         return false;
     }
     b.above_lines + b.height <= b.ref_height

@@ -1,6 +1,7 @@
 // "a luma value that the direction's rule needs at a .. predicted place is not in 0..8M+7" (document 01, refusal 13): one walk over the needed values,
 // which are the block's own and, where the direction takes them and they are there, the row above or the column before.
 use crate::block::Block;
+use colour_terms::reference::Reference;
 use direct_calls::range;
 ghost use mathlib.Core.Path.{_≡_};
 ghost use mathlib.Core.Bool.{true};
@@ -42,7 +43,7 @@ fn area_in_range(luma: &[i32], s: usize, width: usize, height: usize, m: i32) ->
     while j < height {
         let here = run_in_range(&luma[from..], width, m);
         ok = ok & here;
-        from += Block::STRIDE;
+        from += Reference::STRIDE;
         j += 1;
     }
     ok
@@ -75,6 +76,6 @@ pub fn luma_in_range(luma: &[i32], b: Block, m: i32) -> bool
 {
     let up = up_of(b);
     let beside = beside_of(b);
-    let s = (b.above_lines - up) * Block::STRIDE + (b.left_lines - beside);
+    let s = (b.above_lines - up) * Reference::STRIDE + (b.left_lines - beside);
     area_in_range(luma, s, b.width + beside, b.height + up, 8 * m + 7)
 }
