@@ -83,6 +83,13 @@ enum latch_direction {
     LATCH_D67 = 7
 };
 
+/* Whose luma is the direction's, in the colour calls. */
+enum latch_colour_direction {
+    LATCH_COLOUR_CENTRE = 0,         /* the sample's own */
+    LATCH_COLOUR_ABOVE = 1,          /* that of the sample above it */
+    LATCH_COLOUR_LEFT = 2            /* that of the sample left of it */
+};
+
 /* The bits of a flag word; every other bit is zero. */
 enum latch_flag {
     LATCH_HAVE_ABOVE = 1,            /* bit 0: above is there */

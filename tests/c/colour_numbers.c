@@ -69,8 +69,8 @@ static int32_t sample(uint32_t direction, uint32_t d, bool top, bool left, int32
     int32_t out[2] = {-7, -7};
     set_all(-1, -1);
     luma[STRIDE + 1] = 8 + 7;
-    if (direction == 1 && top) luma[1] = 24;
-    if (direction == 2 && left) luma[STRIDE] = 40;
+    if (direction == LATCH_COLOUR_ABOVE && top) luma[1] = 24;
+    if (direction == LATCH_COLOUR_LEFT && left) luma[STRIDE] = 40;
     uint32_t answer = latch_predict_block(luma, 2 * STRIDE, 0, 2, 1, 1, 1, 1, top, left, direction, d, p0, p1, p2, out, 2);
     check(answer == LATCH_DONE && out[1] == -7, "a block of one sample: answer %u, past it %d", answer, (int)out[1]);
     return out[0];
@@ -78,21 +78,21 @@ static int32_t sample(uint32_t direction, uint32_t d, bool top, bool left, int32
 
 static void test_one_sample(void) {
     static const struct { const char *name; uint32_t direction, d; bool top, left; int32_t p0, p1, p2, due; } cases[] = {
-        {"paper case 12: -32768 by 1 is -1", 0, 8, false, false, -32768, 0, 51200, 99},
-        {"-32767 by 1 is 0", 0, 8, false, false, -32767, 0, 51200, 100},
-        {"32768 by 1 is 1", 0, 8, false, false, 32768, 0, 51200, 101},
-        {"32767 by 1 is 0", 0, 8, false, false, 32767, 0, 51200, 100},
-        {"the centre", 0, 10, true, true, 65536, 0, 0, 1},
-        {"the one above", 1, 10, true, true, 65536, 0, 0, 3},
-        {"the one left", 2, 10, true, true, 65536, 0, 0, 5},
-        {"above missing", 1, 10, false, true, 65536, 0, 0, 1},
-        {"left missing", 2, 10, true, false, 65536, 0, 0, 1},
-        {"the middle, D 8", 0, 8, false, false, 0, 0, 65536, 128},
-        {"the middle, D 12", 0, 12, false, false, 0, 0, 65536, 2048},
-        {"clipped to 0", 0, 12, false, false, -65536, 0, 0, 0},
-        {"clipped to M", 0, 12, false, false, 0, 0, 65536 * 2, 4095},
-        {"all least", 0, 12, false, false, INT32_MIN, INT32_MIN, INT32_MIN, 0},
-        {"all greatest", 0, 12, false, false, INT32_MAX, INT32_MAX, INT32_MAX, 4095},
+        {"paper case 12: -32768 by 1 is -1", LATCH_COLOUR_CENTRE, 8, false, false, -32768, 0, 51200, 99},
+        {"-32767 by 1 is 0", LATCH_COLOUR_CENTRE, 8, false, false, -32767, 0, 51200, 100},
+        {"32768 by 1 is 1", LATCH_COLOUR_CENTRE, 8, false, false, 32768, 0, 51200, 101},
+        {"32767 by 1 is 0", LATCH_COLOUR_CENTRE, 8, false, false, 32767, 0, 51200, 100},
+        {"the centre", LATCH_COLOUR_CENTRE, 10, true, true, 65536, 0, 0, 1},
+        {"the one above", LATCH_COLOUR_ABOVE, 10, true, true, 65536, 0, 0, 3},
+        {"the one left", LATCH_COLOUR_LEFT, 10, true, true, 65536, 0, 0, 5},
+        {"above missing", LATCH_COLOUR_ABOVE, 10, false, true, 65536, 0, 0, 1},
+        {"left missing", LATCH_COLOUR_LEFT, 10, true, false, 65536, 0, 0, 1},
+        {"the middle, D 8", LATCH_COLOUR_CENTRE, 8, false, false, 0, 0, 65536, 128},
+        {"the middle, D 12", LATCH_COLOUR_CENTRE, 12, false, false, 0, 0, 65536, 2048},
+        {"clipped to 0", LATCH_COLOUR_CENTRE, 12, false, false, -65536, 0, 0, 0},
+        {"clipped to M", LATCH_COLOUR_CENTRE, 12, false, false, 0, 0, 65536 * 2, 4095},
+        {"all least", LATCH_COLOUR_CENTRE, 12, false, false, INT32_MIN, INT32_MIN, INT32_MIN, 0},
+        {"all greatest", LATCH_COLOUR_CENTRE, 12, false, false, INT32_MAX, INT32_MAX, INT32_MAX, 4095},
     };
     for (size_t i = 0; i < COUNT(cases); i++) {
         int32_t got = sample(cases[i].direction, cases[i].d, cases[i].top, cases[i].left, cases[i].p0, cases[i].p1, cases[i].p2);

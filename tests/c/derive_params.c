@@ -14,9 +14,9 @@ static const uint32_t order[] = {
 #define COUNTS (BIT(LUMA_AT) | BIT(CHROMA_AT))
 
 static const struct fault faults[] = {
-    {"direction 0", LATCH_DONE, {{DIRECTION, 0}}, 0},
-    {"direction 1", LATCH_DONE, {{DIRECTION, 1}}, 0},
-    {"direction 2", LATCH_DONE, {{DIRECTION, 2}}, 0},
+    {"direction 0", LATCH_DONE, {{DIRECTION, LATCH_COLOUR_CENTRE}}, 0},
+    {"direction 1", LATCH_DONE, {{DIRECTION, LATCH_COLOUR_ABOVE}}, 0},
+    {"direction 2", LATCH_DONE, {{DIRECTION, LATCH_COLOUR_LEFT}}, 0},
     {"ref_width 0", LATCH_DONE, {{REF_WIDTH, 0}}, COUNTS},
     {"ref_width 2", LATCH_DONE, {{REF_WIDTH, 2}}, COUNTS},
     {"ref_width 3", LATCH_DONE, {{REF_WIDTH, 3}}, COUNTS},
@@ -86,8 +86,8 @@ static void try_places(struct call *call, int64_t direction) {
         int end = k % ENDS, row = k / (2 * ENDS) / 9, column = k / (2 * ENDS) % 9;
         bool of_luma = k / ENDS % 2 == 0, kept = false;
         bool needed = counts(row, column);
-        if (of_luma && direction == 1) needed = needed || counts(row + 1, column);
-        if (of_luma && direction == 2) needed = needed || counts(row, column + 1);
+        if (of_luma && direction == LATCH_COLOUR_ABOVE) needed = needed || counts(row + 1, column);
+        if (of_luma && direction == LATCH_COLOUR_LEFT) needed = needed || counts(row, column + 1);
         int64_t fields[FIELDS_MOST];
         for (int i = 0; i < FIELDS_MOST; i++) fields[i] = call->plain[i];
         fields[of_luma ? LUMA_AT : CHROMA_AT] = PLACE(row, column);

@@ -12,9 +12,9 @@ static const uint32_t order[] = {
 
 /* The plain block of 4 by 5 stands below 2 lines and right of 3, in a window of 8 rows. */
 static const struct fault faults[] = {
-    {"direction 0", LATCH_DONE, {{DIRECTION, 0}}, 0},
-    {"direction 1", LATCH_DONE, {{DIRECTION, 1}}, 0},
-    {"direction 2", LATCH_DONE, {{DIRECTION, 2}}, 0},
+    {"direction 0", LATCH_DONE, {{DIRECTION, LATCH_COLOUR_CENTRE}}, 0},
+    {"direction 1", LATCH_DONE, {{DIRECTION, LATCH_COLOUR_ABOVE}}, 0},
+    {"direction 2", LATCH_DONE, {{DIRECTION, LATCH_COLOUR_LEFT}}, 0},
     {"ref_width 0", LATCH_DONE, {{REF_WIDTH, 0}}, 0},
     {"ref_width 256", LATCH_DONE, {{REF_WIDTH, 256}}, 0},
     {"ref_height 256", LATCH_DONE, {{REF_HEIGHT, 256}}, BIT(HEIGHT) | BIT(ABOVE_LINES)},
@@ -90,8 +90,8 @@ static void try_places(const struct call *call) {
     for (int k = 0; k < 8 * 9 * ENDS; k++) {
         int end = k % ENDS, row = k / ENDS / 9, column = k / ENDS % 9;
         bool kept = false, needed = predicted(row, column);
-        if (call->plain[DIRECTION] == 1) needed = needed || (predicted(row + 1, column) && call->plain[HAVE_TOP]);
-        if (call->plain[DIRECTION] == 2) needed = needed || (predicted(row, column + 1) && call->plain[HAVE_LEFT]);
+        if (call->plain[DIRECTION] == LATCH_COLOUR_ABOVE) needed = needed || (predicted(row + 1, column) && call->plain[HAVE_TOP]);
+        if (call->plain[DIRECTION] == LATCH_COLOUR_LEFT) needed = needed || (predicted(row, column + 1) && call->plain[HAVE_LEFT]);
         int64_t fields[FIELDS_MOST];
         for (int i = 0; i < FIELDS_MOST; i++) fields[i] = call->plain[i];
         fields[LUMA_AT] = PLACE(row, column);

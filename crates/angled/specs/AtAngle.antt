@@ -8,7 +8,7 @@ use Rattle.edge_filter.specs.Filter.{edge, filtered}
 use Rattle.zones.specs.Zones.{zone1, zone2, zone3}
 use Rattle.setting.specs.Steps.{step}
 use Rattle.setting.specs.Setting.{strengthAbove, strengthLeft, limitAbove, limitLeft}
-use Rattle.setting.specs.Corner.{cornerOf}
+use Rattle.setting.specs.Corner.{filteredCorner}
 use Rattle.setting.specs.declared.Setting.{Setting}
 
 -- n entries above a block of w by h, filtered
@@ -33,4 +33,4 @@ z2From w h M s above left k =
 
 abbrev pub z2At : ℕ → ℕ → ℤ → Setting → List ℤ → List ℤ → ℤ → ℕ → ℕ → ℤ
 z2At w h M s above left k =
-    z2From w h M s above left (cornerOf (s .flags .«edge_filter») (w + h) (getD left 0 (pos 0)) k (getD above 0 (pos 0)))
+    z2From w h M s above left (filteredCorner (s .flags .«edge_filter») (w + h) (getD left 0 (pos 0)) k (getD above 0 (pos 0)))

@@ -1,5 +1,5 @@
 -- What is ready for a block fits, the terms of its samples are small. Assumes nothing.
-use mathlib.Core.Path.{_≡_, sym, _∙_, subst}
+use mathlib.Core.Path.{_≡_, sym, subst}
 use mathlib.Core.Bool.{true}
 use Prim.Native.Nat.{ℕ, _≤_, _<_, _^_}
 use native.Mathlib.Nat.{lt-of-le-of-lt}
@@ -9,9 +9,9 @@ use mir.Syntax.{w32}
 use mir.Val.{SFits}
 use Rattle.numbers.specs.Depth.{most}
 use Rattle.signed.specs.Range.{inside}
-use Rattle.signed.proofs.Bound.{back, back-abs, sfits-abs}
+use Rattle.signed.proofs.Bound.{back-abs, sfits-abs}
 use Rattle.signed.proofs.Range.{inside-abs, inside-pos, inside-more}
-use Rattle.fixed_product.specs.Product.{mulFixed, limitOf}
+use Rattle.fixed_product.specs.Product.{mulFixed, shortLimit}
 use Rattle.fixed_product.proofs.Bounds.{mul-pos}
 use Rattle.fixed_product.proofs.Thru.{thru}
 use Rattle.product_table.proofs.Served.{half-small}
@@ -69,10 +69,10 @@ module _ (k : Mix) (r : Ready k) where
     squared-pos = inside-pos _ _ squared-inside
 
     -- what the short product asks
-    pub first-below : Short k → natAbs (eighth v) < limitOf (k .p0)
+    pub first-below : Short k → natAbs (eighth v) < shortLimit (k .p0)
     first-below h = lt-of-le-of-lt eighth-small (h .first)
 
-    pub second-below : Short k → natAbs (squared (k .bits) (eighth v)) < limitOf (k .p1)
+    pub second-below : Short k → natAbs (squared (k .bits) (eighth v)) < shortLimit (k .p1)
     second-below h = lt-of-le-of-lt squared-small (h .second)
 
   pub most-small : (z : ℤ) → natAbs z ≤ most (k .bits) → natAbs z ≤ 4095

@@ -9,7 +9,7 @@ use mir.Syntax.{w32}
 use mir.Val.{SFits}
 use Rattle.numbers.specs.Depth.{isDepth, most}
 use Rattle.signed.proofs.Order.{ltZ-true, ltZ-false, lt-ltZ, le-ltZ}
-use Rattle.fixed_product.specs.Product.{mulFixed, limitOf}
+use Rattle.fixed_product.specs.Product.{mulFixed, shortLimit}
 use Rattle.product_table.specs.Wide.{halfOf}
 use Rattle.fixed_product.proofs.Short.{short}
 use Rattle.product_table.proofs.Kept.{shift-round}
@@ -17,7 +17,7 @@ use Rattle.colour_terms.proofs.Most.{most-all}
 use Rattle.colour_row.specs.Sample.{clipTo, clipped}
 
 -- below the limit the product is that shift
-pub short-is : (a : ℤ) (n : ℕ) → SFits w32 a → n < limitOf a → shrZ (a *ℤ pos n +ℤ halfOf a) 65536 ≡ mulFixed a (pos n) 16
+pub short-is : (a : ℤ) (n : ℕ) → SFits w32 a → n < shortLimit a → shrZ (a *ℤ pos n +ℤ halfOf a) 65536 ≡ mulFixed a (pos n) 16
 short-is a n f h = sym (shift-round a n) ∙ short a n f h .is
 
 least : (M : ℕ) → M ≤ 32767 → (t : Bool) → ltZ (pos M) (pos 32767) ≡ t → pos M ≡ cond t (pos M) (pos 32767)

@@ -5,7 +5,7 @@ use mathlib.Core.Bool.{true}
 use lib.IntN.{ℤ, pos, natAbs}
 use Rattle.numbers.specs.Depth.{isDepth, most}
 use Rattle.signed.specs.Range.{inside}
-use Rattle.fixed_product.specs.Product.{limitOf}
+use Rattle.fixed_product.specs.Product.{shortLimit}
 use Rattle.product_table.specs.Wide.{halfOf}
 use Rattle.colour_terms.specs.Terms.{middle}
 use Rattle.colour_row.specs.Sample.{total, thirdOf, clipped}
@@ -13,8 +13,8 @@ use Rattle.colour_row.specs.declared.mix.Mix.{Mix}
 
 -- every second factor of the block is below the limits
 pub record Short (k : Mix) : Type 0 where
-  pub first : most (k .bits) < limitOf (k .p0)
-  pub second : most (k .bits) < limitOf (k .p1)
+  pub first : most (k .bits) < shortLimit (k .p0)
+  pub second : most (k .bits) < shortLimit (k .p1)
 
 pub record Ready (k : Mix) : Type 0 where
   pub depth : isDepth (k .bits) ≡ true

@@ -3,7 +3,7 @@ use crate::mix::Mix;
 ghost use mathlib.Core.Path.{_≡_};
 ghost use Prim.Native.Nat.{_≤_, _<_, _^_};
 ghost use lib.IntN.{pos, natAbs, _+ℤ_};
-ghost use Rattle.fixed_product.specs.Product.{mulFixed, limitOf};
+ghost use Rattle.fixed_product.specs.Product.{mulFixed, shortLimit};
 ghost use Rattle.product_table.specs.Wide.{halfOf};
 ghost use Rattle.colour_row.specs.Sample.{clipTo, clipped};
 ghost use Rattle.colour_row.specs.Mixed.{Ready, Short, Luma, mixed};
@@ -24,7 +24,7 @@ fn clip(x: i32, m: i32) -> i32
 
 // The short product: a times n, which is below a's limit, rounded by a's half.
 fn short(a: i32, n: i32, half: i32) -> i32
-    requires { ⌜ (n ≡ pos (natAbs n)) × (natAbs n < limitOf a) × (half ≡ halfOf a) ⌝ }
+    requires { ⌜ (n ≡ pos (natAbs n)) × (natAbs n < shortLimit a) × (half ≡ halfOf a) ⌝ }
     ensures { λ r. ⌜ r ≡ mulFixed a n 16 ⌝ }
 {
     (a * n + half) >> 16

@@ -35,12 +35,8 @@ impl Block {
 
     // Its direction by its name.
     pub fn colour(self) -> ColourDirection
-        requires { ⌜ isColour (self .direction) ≡ true ⌝ }
         ensures { λ r. ⌜ r ≡ theColour (self .direction) ⌝ }
     {
-        let FoundColour::Is(direction) = ColourDirection::of(self.direction) else {
-            return ColourDirection::Centre;
-        };
-        direction
+        ColourDirection::named(self.direction)
     }
 }

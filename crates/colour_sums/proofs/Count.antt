@@ -8,7 +8,7 @@ use lib.IntN.{ℤ}
 use Rattle.numbers.specs.declared.colour.ColourDirection.{ColourDirection}
 use Rattle.colour_sums.specs.declared.window.Window.{Window}
 use Rattle.colour_sums.specs.Sample.{inRangeAt}
-use Rattle.colour_sums.specs.Places.{fold, walk, wide, high, rowsAbove, few, block, above, below}
+use Rattle.colour_sums.specs.Places.{fold, walk, wide, high, rowsAbove, few, walkBlock, walkAbove, walkBelow}
 use Rattle.colour_sums.specs.Sum.{none, oneMore, sumsOf, countOf, isReadable}
 use Rattle.colour_sums.proofs.Walks.{rows-both}
 use Rattle.colour_sums.proofs.Runs.{walk-is}
@@ -18,16 +18,16 @@ unfolding fold
 fold-count zero c = omega arith
 fold-count (suc n) c = omega (arith, fold-count n c)
 
-block-count : (m r n c : ℕ) → block m r n (λ x y k. k + 1) c ≡ c + r * n
+block-count : (m r n c : ℕ) → walkBlock m r n (λ x y k. k + 1) c ≡ c + r * n
 unfolding fold
 block-count m zero n c = omega arith
-block-count m (suc r) n c = fold-count n (block m r n (λ x y k. k + 1) c) ∙ omega (arith, block-count m r n c)
+block-count m (suc r) n c = fold-count n (walkBlock m r n (λ x y k. k + 1) c) ∙ omega (arith, block-count m r n c)
 
 pub count-is : (w : Window) → countOf w ≡ rowsAbove w * wide w + (high w - rowsAbove w) * few w
-unfolding above below
+unfolding walkAbove walkBelow
 count-is w =
     walk-is w (λ x y k. k + 1) 0
-    ∙ block-count (rowsAbove w) (high w - rowsAbove w) (few w) (above w (λ x y k. k + 1) 0)
+    ∙ block-count (rowsAbove w) (high w - rowsAbove w) (few w) (walkAbove w (λ x y k. k + 1) 0)
     ∙ ap (λ k. k + (high w - rowsAbove w) * few w) (block-count 0 (rowsAbove w) (wide w) 0 ∙ first)
   where
     first : 0 + rowsAbove w * wide w ≡ rowsAbove w * wide w

@@ -4,7 +4,7 @@ use mathlib.Core.Bool.{true, false, cond}
 use mathlib.Core.Logic.{inl, inr, ⊎-elim}
 use Prim.Native.Nat.{ℕ, zero, suc, _+_, _-_, _≤_, _<_}
 use native.Mathlib.Omega.{arith}
-use Rattle.colour_sums.specs.Places.{counts, fold, row, walk, wide, high, rowsAbove, few, block, above, below}
+use Rattle.colour_sums.specs.Places.{counts, fold, row, walk, wide, high, rowsAbove, few, walkBlock, walkAbove, walkBelow}
 use Rattle.colour_sums.specs.declared.window.Window.{Window}
 use Rattle.colour_sums.proofs.Walks.{fold-none, fold-suc, fold-past, fold-shift}
 use Rattle.signed.proofs.Naturals.{either}
@@ -41,7 +41,7 @@ module _ {A : Type 0} (w : Window) (f : ℕ → ℕ → A → A) where
   abbrev lower : ℕ → A → A
   lower j b = fold (few w) (λ i c. f (suc i) (suc (rowsAbove w + j)) c) b
 
-  above-rows : (m : ℕ) → m ≤ rowsAbove w → (a : A) → fold (suc m) (row w f) a ≡ block 0 m (wide w) f a
+  above-rows : (m : ℕ) → m ≤ rowsAbove w → (a : A) → fold (suc m) (row w f) a ≡ walkBlock 0 m (wide w) f a
   above-rows zero h a =
       fold-suc 0 (row w f) a ∙ idle 0 (λ x. no-row w x 0 (inl refl)) (fold 0 (row w f) a) ∙ fold-none (row w f) a ∙ sym (fold-none _ a)
   above-rows (suc m) h a =
@@ -53,8 +53,8 @@ module _ {A : Type 0} (w : Window) (f : ℕ → ℕ → A → A) where
       first : m ≡ 0 + m
       first = omega arith
 
-  below-rows : (m : ℕ) → m ≤ high w - rowsAbove w → (a : A) → fold (suc (rowsAbove w + m)) (row w f) a ≡ fold m lower (above w f a)
-  unfolding above
+  below-rows : (m : ℕ) → m ≤ high w - rowsAbove w → (a : A) → fold (suc (rowsAbove w + m)) (row w f) a ≡ fold m lower (walkAbove w f a)
+  unfolding walkAbove
   below-rows zero h a =
       let e : suc (rowsAbove w + 0) ≡ suc (rowsAbove w) = omega arith in
       ap (λ n. fold n (row w f) a) e ∙ above-rows (rowsAbove w) (omega arith) a ∙ sym (fold-none lower _)
@@ -67,8 +67,8 @@ module _ {A : Type 0} (w : Window) (f : ℕ → ℕ → A → A) where
       ∙ ap (lower m) (below-rows m (omega arith) a)
       ∙ sym (fold-suc m lower _)
 
-  pub walk-is : (a : A) → walk w f a ≡ below w f (above w f a)
-  unfolding walk below
+  pub walk-is : (a : A) → walk w f a ≡ walkBelow w f (walkAbove w f a)
+  unfolding walk walkBelow
   walk-is a =
       ⊎-elim
       (λ l. fold-past (row w f) a (suc n) (w .«ref_height») l (λ k m b. idle k (λ x. no-row w x k (inr (omega arith))) b))

@@ -9,7 +9,7 @@ use Rattle.numbers.specs.declared.colour.ColourDirection.{ColourDirection}
 use Rattle.colour_terms.specs.Terms.{entry}
 use Rattle.colour_sums.specs.declared.totals.Totals.{Totals}
 use Rattle.colour_sums.specs.Way.{behind}
-use Rattle.colour_sums.specs.Places.{block}
+use Rattle.colour_sums.specs.Places.{walkBlock}
 use Rattle.colour_sums.specs.Sum.{oneMore}
 use Rattle.colour_sums.specs.Took.{Took, TookLines, readable, byRows, byColumns}
 use Rattle.colour_sums.proofs.Steps.{took-as}
@@ -18,7 +18,7 @@ use Rattle.colour_sums.proofs.Blocks.{over-rows, over-columns, read-is,
 
 module _ (D : ℕ) (direction : ColourDirection) (luma chroma : List ℤ) (m r n : ℕ) (g t : Totals) where
   abbrev Taken : Type 0
-  Taken = Took D (block m r n (readable (most D) direction (entry luma) (entry chroma))) (block m r n (oneMore D direction (entry luma) (entry chroma))) (2 ^ 40) g t
+  Taken = Took D (walkBlock m r n (readable (most D) direction (entry luma) (entry chroma))) (walkBlock m r n (oneMore D direction (entry luma) (entry chroma))) (2 ^ 40) g t
 
   pub took-rows : TookLines D luma chroma (behind direction) (byRows m r n) g t → Taken
   took-rows =

@@ -12,7 +12,7 @@ use Rattle.colour_sums.specs.declared.nine.Nine.{Nine}
 use Rattle.colour_sums.specs.declared.totals.Totals.{Totals}
 use Rattle.colour_sums.specs.declared.window.Window.{Window}
 use Rattle.colour_sums.specs.declared.window.Gathered.the-variants.{Sums, OutOfRange}
-use Rattle.colour_sums.specs.Places.{walk, wide, high, rowsAbove, few, block, above, below}
+use Rattle.colour_sums.specs.Places.{walk, wide, high, rowsAbove, few, walkBlock, walkAbove, walkBelow}
 use Rattle.colour_sums.specs.Sum.{oneMore, sumsOf, isReadable, gathered, Laid}
 use Rattle.colour_sums.specs.Way.{behind, unseen, allIn}
 use Rattle.colour_sums.specs.Took.{Took, TookAll, Grid, empty, readable, aboveRows, belowRows, belowColumns}
@@ -43,11 +43,11 @@ module _ (w : Window) (luma chroma : List ℤ) (direction : ColourDirection) (h 
 module _ (D : ℕ) (direction : ColourDirection) (luma chroma : ℕ → ℕ → ℤ) (w : Window) where
   -- the places inside the above lines, and then those below them
   abbrev pub TookBlock : ℕ → ℕ → ℕ → Totals → Totals → Type 0
-  TookBlock m r n g t = Took D (block m r n (readable (most D) direction luma chroma)) (block m r n (oneMore D direction luma chroma)) (2 ^ 40) g t
+  TookBlock m r n g t = Took D (walkBlock m r n (readable (most D) direction luma chroma)) (walkBlock m r n (oneMore D direction luma chroma)) (2 ^ 40) g t
 
   pub took-all : {g r : Totals} → TookBlock 0 (rowsAbove w) (wide w) empty g → TookBlock (rowsAbove w) (high w - rowsAbove w) (few w) g r
       → TookAll D direction luma chroma w r
-  unfolding above below
+  unfolding walkAbove walkBelow
   took-all a b = took-as (λ ok. sym (walk-is w _ ok)) (λ s. sym (walk-is w _ s)) (omega arith) (took-then a b)
 
   nothing-in : allIn (most D) unseen ≡ true

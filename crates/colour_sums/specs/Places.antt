@@ -41,11 +41,11 @@ abbrev pub few : Window → ℕ
 few w = min (w .«left_lines» - 1) (wide w)
 
 -- f at the first n columns from column 1 on of each of r rows from row m + 1 on
-abbrev pub block : {A : Type 0} → ℕ → ℕ → ℕ → (ℕ → ℕ → A → A) → A → A
-block m r n f a = fold r (λ j b. fold n (λ i c. f (suc i) (suc (m + j)) c) b) a
+abbrev pub walkBlock : {A : Type 0} → ℕ → ℕ → ℕ → (ℕ → ℕ → A → A) → A → A
+walkBlock m r n f a = fold r (λ j b. fold n (λ i c. f (suc i) (suc (m + j)) c) b) a
 
-unfoldable pub above : {A : Type 0} → Window → (ℕ → ℕ → A → A) → A → A
-above w f a = block 0 (rowsAbove w) (wide w) f a
+unfoldable pub walkAbove : {A : Type 0} → Window → (ℕ → ℕ → A → A) → A → A
+walkAbove w f a = walkBlock 0 (rowsAbove w) (wide w) f a
 
-unfoldable pub below : {A : Type 0} → Window → (ℕ → ℕ → A → A) → A → A
-below w f a = block (rowsAbove w) (high w - rowsAbove w) (few w) f a
+unfoldable pub walkBelow : {A : Type 0} → Window → (ℕ → ℕ → A → A) → A → A
+walkBelow w f a = walkBlock (rowsAbove w) (high w - rowsAbove w) (few w) f a

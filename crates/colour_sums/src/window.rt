@@ -110,7 +110,8 @@ fn gathered_of(g: Totals, depth: DepthTerms) -> Gathered
     Gathered::Sums(s)
 }
 
-// The nine sums over the n places that count, or that something which the direction's rule needs there is not in range.
+// The nine sums over the places that count, or that something which the direction's rule needs there is not in range. n, how many count, only picks the
+// way.
 pub fn gather(
     luma: &[i32],
     chroma: &[i32],

@@ -2,7 +2,7 @@
 mod choice;
 mod copies;
 pub mod turned;
-pub mod words;
+mod words;
 
 use numbers::answer::Answer;
 ghost use Rattle.direct_calls.specs.Direct.{PredictedBy};

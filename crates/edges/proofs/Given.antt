@@ -1,4 +1,4 @@
--- Edges that were built are what every block function is given (calls/specs/Given). Assumes nothing.
+-- Edges that were built are what every block function is given (direct_calls/specs/Given). Assumes nothing.
 use mathlib.Core.Path.{_≡_}
 use mathlib.Core.Bool.{true}
 use mathlib.Core.List.{List}

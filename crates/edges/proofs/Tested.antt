@@ -1,6 +1,6 @@
 -- The samples behind the entries: the code's tests of them are the rule's, and where the rule is kept each can be read. Assumes nothing.
 use mathlib.Core.Path.{_≡_, _∙_, ap}
-use mathlib.Core.Bool.{Bool, true, _&&_}
+use mathlib.Core.Bool.{true, _&&_}
 use mathlib.Core.List.{List}
 use Prim.Native.Nat.{ℕ, _*_, _<_}
 use lib.IntN.{ℤ, pos}

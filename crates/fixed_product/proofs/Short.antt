@@ -16,19 +16,19 @@ use borrow.Author.Tests.{le-leb, lt-leb, ltb-true}
 use Rattle.signed.specs.Range.{inside}
 use Rattle.signed.proofs.Range.{inside-abs, inside-pos}
 use Rattle.signed.proofs.Bound.{abs-times}
-use Rattle.fixed_product.specs.Product.{ilog2, digits, over, narrow, signed, near, rounded, mulFixed, limitOf}
+use Rattle.fixed_product.specs.Product.{ilog2, digits, over, narrow, signed, near, rounded, mulFixed, shortLimit}
 use Rattle.fixed_product.specs.Short.{term}
 use Rattle.signed.proofs.Naturals.{either, pow-le, pow-below}
 use Rattle.fixed_product.proofs.Shift.{ilog2-is, ilog2-zero}
 use Rattle.fixed_product.proofs.Rounding.{rounded-near, near-zero}
 use Rattle.fixed_product.proofs.Bounds.{digits-of}
 
-pub limit-few : (a : ℤ) → digits a ≤ 28 → limitOf a ≡ 2 ^ (29 - digits a)
-unfolding limitOf
+pub limit-few : (a : ℤ) → digits a ≤ 28 → shortLimit a ≡ 2 ^ (29 - digits a)
+unfolding shortLimit
 limit-few a h = simp (le-leb (digits a) 28 h)
 
-pub limit-none : (a : ℤ) → 28 < digits a → limitOf a ≡ 0
-unfolding limitOf
+pub limit-none : (a : ℤ) → 28 < digits a → shortLimit a ≡ 0
+unfolding shortLimit
 limit-none a h = simp (lt-leb (digits a) 28 h)
 
 -- n < 2 ^ k has at most k digits, for 1 ≤ k
@@ -69,7 +69,7 @@ pub record Short (a : ℤ) (n : ℕ) : Type 0 where
   pub small : natAbs a * n ≤ 2 ^ 29
   pub is : signed a (near (natAbs a * n) 16) ≡ mulFixed a (pos n) 16
 
-pub short : (a : ℤ) (n : ℕ) → SFits w32 a → n < limitOf a → Short a n
+pub short : (a : ℤ) (n : ℕ) → SFits w32 a → n < shortLimit a → Short a n
 unfolding over mulFixed
 short a n f h = go (either (digits a) 28)
   where
@@ -95,8 +95,8 @@ short a n f h = go (either (digits a) 28)
 pub term-is : (a b : ℤ) → SFits w32 a → term a b ≡ mulFixed a b 16
 unfolding term
 term-is a (negsuc n) f = refl
-term-is a (pos n) f = go (ltb n (limitOf a)) refl
+term-is a (pos n) f = go (ltb n (shortLimit a)) refl
   where
-    go : (t : Bool) → ltb n (limitOf a) ≡ t → cond t (signed a (near (natAbs a * n) 16)) (mulFixed a (pos n) 16) ≡ mulFixed a (pos n) 16
-    go true e = short a n f (ltb-true n (limitOf a) e) .is
+    go : (t : Bool) → ltb n (shortLimit a) ≡ t → cond t (signed a (near (natAbs a * n) 16)) (mulFixed a (pos n) 16) ≡ mulFixed a (pos n) 16
+    go true e = short a n f (ltb-true n (shortLimit a) e) .is
     go false e = refl

@@ -42,5 +42,5 @@ unfoldable pub mulFixed : ℤ → ℤ → ℕ → ℤ
 mulFixed a b shift = rounded (narrow a b) (shift - over a b)
 
 -- a second factor below this, and not negative, leaves no digit over, so that the product is short
-unfoldable pub limitOf : ℤ → ℕ
-limitOf a = cond (leb (digits a) 28) (2 ^ (29 - digits a)) 0
+unfoldable pub shortLimit : ℤ → ℕ
+shortLimit a = cond (leb (digits a) 28) (2 ^ (29 - digits a)) 0

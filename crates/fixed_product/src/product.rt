@@ -3,7 +3,7 @@
 ghost use mathlib.Core.Path.{_≡_};
 ghost use Prim.Native.Nat.{_≤_, _^_, _-_};
 ghost use lib.IntN.{natAbs};
-ghost use Rattle.fixed_product.specs.Product.{ilog2, digits, rounded, mulFixed, limitOf};
+ghost use Rattle.fixed_product.specs.Product.{ilog2, digits, rounded, mulFixed, shortLimit};
 
 // |a|, also of i32::MIN.
 pub fn magnitude(a: i32) -> u32
@@ -72,7 +72,7 @@ pub fn mul_fixed32_adapt(a: i32, b: i32, shift: u32) -> i32
 
 // A second factor below this, and not negative, leaves no digit over: `mul_fixed32_fits` of mhccp.rs.
 pub fn limit(a: i32) -> u32
-    ensures { λ r. ⌜ r ≡ limitOf a ⌝ }
+    ensures { λ r. ⌜ r ≡ shortLimit a ⌝ }
 {
     let n = digits(a);
     if n <= 28 { 1 << (29 - n) } else { 0 }

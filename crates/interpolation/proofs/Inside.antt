@@ -1,7 +1,7 @@
 -- A sample between entries is in 0..M, and of chroma the two taps' value already is: its clip never acts. M, the taps' phase and the entries are open.
 -- Assumes nothing.
 use mathlib.Core.Bool.{Bool, true, false}
-use mathlib.Core.Path.{_≡_, refl, sym, _∙_, ap}
+use mathlib.Core.Path.{_≡_, _∙_, ap}
 use Prim.Native.Nat.{ℕ, _≤_, _+_, _-_, _*_, _/_}
 use native.Mathlib.Nat.{mul-le-mul-left}
 use native.Mathlib.Omega.{arith}

@@ -15,7 +15,7 @@ use Rattle.lists.proofs.Fill.{length-tab, filled-all, filled-at}
 use Rattle.direct_calls.specs.Given.{Given}
 use Rattle.edge_line.specs.Edge.{entryOf}
 use Rattle.edges.specs.Behind.{aboveBehind, leftBehind, cornerBehind}
-use Rattle.edges.specs.Refs.{valueOf, aboveOf, leftOf, cornerOf, Lists}
+use Rattle.edges.specs.Refs.{valueOf, aboveOf, leftOf, cornerOf}
 use Rattle.edges.proofs.Placed.{small}
 use Rattle.edges.proofs.Given.{built-given}
 use Rattle.job.specs.declared.job.Job.{Job}

@@ -1,3 +1,3 @@
--- What a lent list holds afterwards.
+-- What a lent list holds afterwards: to be believed.
 pub mod Fill
 pub mod Block

@@ -4,12 +4,12 @@ use mathlib.Core.Bool.{Bool, true, false, cond}
 use mathlib.Core.Logic.{⊎-elim}
 use Prim.Native.Nat.{ℕ, _≤_}
 use native.Mathlib.Omega.{arith}
-use lib.Dec.{eqb, leb}
+use lib.Dec.{eqb}
 use lib.IntN.{ℤ, pos, natAbs, _+ℤ_, _-ℤ_}
 use borrow.Author.Tests.{eqb-true, le-leb}
 use Rattle.signed.proofs.Parts.{up, dn, same, add, sub, abs, one}
 use Rattle.numbers.specs.Dir.{dirNumber, dirOf, isDelta, deltaOf}
-use Rattle.numbers.specs.Mode.{modeNumber, directionMode, directedMode, namedMode, StandFor, DeltaInRange}
+use Rattle.numbers.specs.Mode.{directionMode, directedMode, namedMode, StandFor, DeltaInRange}
 use Rattle.numbers.specs.declared.dir.Dir.{Dir}
 use Rattle.numbers.specs.declared.dir.FoundDir.{FoundDir}
 use Rattle.numbers.specs.declared.dir.FoundDir.the-variants as found-dir

@@ -1,4 +1,5 @@
--- Limits (document 01, Ranges and numbers that name things): an associated constant each in the code, and once here in the statements.
+-- Limits (document 01, Ranges and numbers that name things): an associated constant each in the code, and once here in what a reader must believe. The
+-- needs of inner functions have them as numerals.
 use Prim.Native.Nat.{ℕ}
 
 -- "A plane is W by H samples of f32, W and H from 4 to 4,096." `Plane::LEAST`, `Plane::MOST`

@@ -29,8 +29,8 @@ modeNumber (Directional d delta) = directionMode
 -- ---- the mode that a row's words name: "Words 5, 6, 13 and 14 are looked at only in mode 4."
 
 -- the four modes that are plain names
-abbrev pub plain : List Mode
-plain = Paeth ∷ Smooth ∷ SmoothV ∷ SmoothH ∷ []
+abbrev pub plainModes : List Mode
+plainModes = Paeth ∷ Smooth ∷ SmoothV ∷ SmoothH ∷ []
 
 -- a direction that was looked up, and the word of its delta
 abbrev pub directedMode : FoundDir → ℕ → FoundMode
@@ -40,7 +40,7 @@ directedMode found-dir.NoDir delta = NoMode
 -- the words mode, direction and delta
 unfoldable pub namedMode : ℕ → ℕ → ℕ → FoundMode
 namedMode mode direction delta =
-    look modeNumber Is (cond (eqb mode directionMode) (directedMode (dirOf direction) delta) NoMode) plain mode
+    look modeNumber Is (cond (eqb mode directionMode) (directedMode (dirOf direction) delta) NoMode) plainModes mode
 
 -- they name one
 abbrev pub isFound : FoundMode → Bool

@@ -1,5 +1,5 @@
 // A job's block and its hull, the rectangle around all that it reads and writes: two jobs whose blocks and hulls do not meet cannot clash
-// (`clash`, proofs/Meets). Both are empty if it fails 1 to 7.
+// (clash/proofs/Meets). Both are empty if it fails 1 to 7.
 use crate::sides;
 use crate::sides::Sides;
 use clash::hits;

@@ -19,12 +19,12 @@ abbrev pub Wholes : ℕ → List Float → Type 0
 Wholes n block = (i : ℕ) → i < n → Whole (getD block i nan)
 
 -- "prediction plus difference, clipped to 0..M"
-abbrev pub added : ℤ → Float → ℤ → Float
-added m v d = sample (clip m (toSigned 31 v +ℤ d))
+abbrev pub withDifference : ℤ → Float → ℤ → Float
+withDifference m v d = sample (clip m (toSigned 31 v +ℤ d))
 
 -- entry i of a predicted block, and of its differences
 abbrev pub addedAt : ℤ → List Float → List ℤ → ℕ → Float
-addedAt m block differences i = added m (getD block i nan) (getD differences i (pos 0))
+addedAt m block differences i = withDifference m (getD block i nan) (getD differences i (pos 0))
 
 -- a block of B by B samples at column x and row y, in a plane of rows of W samples
 pub record Room (size W x y B : ℕ) : Type 0 where

@@ -7,7 +7,7 @@ ghost use lib.ListN.{length};
 ghost use Rattle.signed.specs.Range.{inside};
 ghost use Rattle.lists.specs.Fill.{tab};
 ghost use Rattle.interpolation.specs.Interp.{clip};
-ghost use Rattle.paint.specs.Block.{Whole, Wholes, added, addedAt, Room};
+ghost use Rattle.paint.specs.Block.{Whole, Wholes, withDifference, addedAt, Room};
 ghost use Rattle.paint.specs.Painted.{painted};
 
 // x, clipped to 0..m: the larger of x and 0, and then the smaller of that and m.
@@ -22,7 +22,7 @@ fn clipped(x: i32, m: i32) -> i32
 // A predicted sample with its difference.
 fn add(v: f32, difference: i16, m: i32) -> f32
     requires { ⌜ Whole v × (inside (pos 4095) m ≡ true) ⌝ }
-    ensures { λ r. ⌜ r ≡ added m v difference ⌝ }
+    ensures { λ r. ⌜ r ≡ withDifference m v difference ⌝ }
 {
     clipped(v as i32 + difference as i32, m) as f32
 }

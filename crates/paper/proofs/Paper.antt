@@ -13,13 +13,13 @@ use Rattle.interpolation.specs.Interp.{clip, taps2, between}
 use Rattle.edge_filter.specs.Filter.{edge, filtered}
 use Rattle.setting.specs.Strength.{strength}
 use Rattle.setting.specs.Setting.{strengthAbove, strengthLeft}
-use Rattle.setting.specs.Corner.{cornerOf}
-use Rattle.zones.specs.Zones.{along as alongEdge, zone2}
+use Rattle.setting.specs.Corner.{filteredCorner}
+use Rattle.zones.specs.Zones.{sampleAlong, zone2}
 use Rattle.directional.specs.Directional.{isDown, isAcross}
 use Rattle.fixed_product.specs.Product.{ilog2, digits, over, narrow, rounded, mulFixed}
 use Rattle.reciprocal.specs.Division.{curve, moved, fraction, scaleOf}
 use Rattle.paper.specs.Paper.{given, paper}
 
 pub as-on-paper : given ≡ paper
-unfolding given paper paeth blend log2 scale weight trailingZeros tab reading ofBits add toUnsigned aboveBehind leftBehind cornerBehind along isDown isAcross alongEdge zone2 filtered strengthAbove strengthLeft strength edge cornerOf between clip taps2 mulFixed rounded narrow over digits ilog2 leadingZeros scaleOf curve fraction moved
+unfolding given paper paeth blend log2 scale weight trailingZeros tab reading ofBits add toUnsigned aboveBehind leftBehind cornerBehind along isDown isAcross sampleAlong zone2 filtered strengthAbove strengthLeft strength edge filteredCorner between clip taps2 mulFixed rounded narrow over digits ilog2 leadingZeros scaleOf curve fraction moved
 as-on-paper = refl

@@ -1,11 +1,9 @@
 -- A run in an accepted order ends as the plan's own order does: the same plane and the same answers. Accepted is exact: by the samples that the jobs
 -- read and write. Assumes nothing.
 use mathlib.Core.Path.{_≡_, sym, _∙_}
-use mathlib.Core.Bool.{_&&_}
 use mathlib.Core.List.{List}
 use Prim.Native.Nat.{ℕ, _*_, _%_, _≤_}
 use native.Mathlib.Omega.{arith}
-use lib.Dec.{leb, eqb}
 use lib.IntN.{ℤ}
 use lib.ListN.{length}
 use Rattle.numbers.specs.declared.answer.Answer.{Answer}
@@ -24,7 +22,7 @@ use Rattle.job_work.specs.Jobs.{jobs}
 use Rattle.job_work.proofs.Clash.{clash-exact}
 use Rattle.job_work.proofs.Laws.{job-laws}
 use Rattle.order.specs.Rules.{jobsIn, isOnce, isKept}
-use Rattle.plan.specs.Rules.{isPlan, runRules, runAnswer}
+use Rattle.plan.specs.Rules.{runRules, runAnswer}
 use Rattle.plan.specs.Run.{Memory, inOrder, planOrder, answerFor, Ran, Rows}
 use Rattle.plan.proofs.Tests.{parts}
 

@@ -10,7 +10,7 @@ use lib.IntN.{ℤ, pos, negsuc, natAbs, _+ℤ_, _*ℤ_}
 use lib.Signed.{shrZ}
 use Rattle.signed.proofs.Parts.{same, mul}
 use Rattle.signed.proofs.Bound.{abs-times}
-use Rattle.fixed_product.specs.Product.{digits, over, narrow, signed, near, mulFixed}
+use Rattle.fixed_product.specs.Product.{over, narrow, signed, near, mulFixed}
 use Rattle.product_table.specs.Wide.{cleared, mask, keptProduct, halfOf}
 use Rattle.fixed_product.proofs.Shift.{shr-pow-pos}
 use Rattle.fixed_product.proofs.Away.{down}

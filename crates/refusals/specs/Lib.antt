@@ -1,3 +1,3 @@
--- Refusals in order, and what a call promises.
+-- Refusals in order, and what a call promises: to be believed.
 pub mod Ladder
 pub mod Promise

@@ -10,7 +10,7 @@ use lib.Ieee.{Float, nan, inf, fin, binary32, up, down, add, lt, le, eq, ofInt, 
 use lib.Ieee.Fits.{down-pos}
 use Rattle.numbers.specs.Depth.{isDepth, most}
 use Rattle.signed.proofs.Range.{and-both}
-use Rattle.samples.specs.Sample.{zero, half, above, isSample, reading, Readable}
+use Rattle.samples.specs.Sample.{zero, half, bound, isSample, reading, Readable}
 use Rattle.samples.proofs.Within.{yes}
 use Rattle.samples.proofs.Half.{at-most-top, top, depth-top, sum-most, sum-least}
 
@@ -18,7 +18,7 @@ under : (M : ℕ) → M ≤ 4095 → (a d : ℕ) → a * 2 ≤ (2 * M + 1) * d �
 under M h a d k p = omega (arith, mul-le-mul-right {m = 2 * M + 1} {n = 8191} d (omega arith))
 
 -- a float at most M + 0.5 is below 2 ^ 13, where M is at most 4095
-below : (M : ℕ) → M ≤ 4095 → (x : Float) → T (le x (top M)) → T (lt x above)
+below : (M : ℕ) → M ≤ 4095 → (x : Float) → T (le x (top M)) → T (lt x bound)
 unfolding lt le eq
 below M h nan t = absurd t
 below M h (inf true) t = tt
@@ -50,7 +50,7 @@ module _ (D : ℕ) (v : Float) (d : isDepth D ≡ true) (e : isSample (pos (most
   sum-from : T (le half (add binary32 v half))
   sum-from = sum-least v (most D) (depth-top D d) (yes (tests .0)) (yes (tests .1))
 
-pub sum-within : (v : Float) → Readable v → T (le half (add binary32 v half)) × T (lt (add binary32 v half) above)
+pub sum-within : (v : Float) → Readable v → T (le half (add binary32 v half)) × T (lt (add binary32 v half) bound)
 sum-within v r = (
   sum-from (r .depth) v (r .is) (r .in-range),
   below (most (r .depth)) (depth-top (r .depth) (r .is) .0) (add binary32 v half) (sum-of (r .depth) v (r .is) (r .in-range)),

@@ -1,2 +1,2 @@
--- What a sample reads as.
+-- What a sample reads as: to be believed.
 pub mod Sample

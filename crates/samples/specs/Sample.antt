@@ -13,8 +13,8 @@ zero = fin false 0 (pos 0)
 abbrev pub half : Float
 half = fin false 1 (negsuc 0)
 
-abbrev pub above : Float
-above = fin false 1 (pos 13)
+abbrev pub bound : Float
+bound = fin false 1 (pos 13)
 
 -- "is .. a number in 0..M": `le` finds no NaN at most anything, and -0.0 not below 0
 unfoldable pub isSample : ℤ → Float → Bool

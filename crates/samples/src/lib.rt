@@ -5,11 +5,11 @@ ghost use lib.Dec.{T};
 ghost use lib.IntN.{pos};
 ghost use lib.Ieee.{le, lt, toUnsigned};
 ghost use Rattle.signed.specs.Range.{inside};
-ghost use Rattle.samples.specs.Sample.{half, above, isSample, reading, Readable};
+ghost use Rattle.samples.specs.Sample.{half, bound, isSample, reading, Readable};
 
 // x without its fraction: the exponent's field says how far the digits are shifted. From 0.5 on that is by 24 places at most, so that no test is needed.
 fn whole(x: f32) -> u32
-    requires { ⌜ T (le half x) × T (lt x above) ⌝ }
+    requires { ⌜ T (le half x) × T (lt x bound) ⌝ }
     ensures { λ r. ⌜ r ≡ toUnsigned 32 x ⌝ }
 {
     let bits = f32::to_bits(x);

@@ -8,15 +8,15 @@ use lib.IntN.{ℤ, pos, _+ℤ_, _*ℤ_}
 use lib.Signed.{shrZ}
 use Rattle.signed.specs.Range.{inside}
 use Rattle.signed.proofs.Range.{inside-abs, inside-pos, pos-inside}
-use Rattle.setting.specs.Corner.{cornerOf}
+use Rattle.setting.specs.Corner.{filteredCorner}
 
 natural : (v l k a : ℕ) → l ≤ v → k ≤ v → a ≤ v
     → inside (pos v) (shrZ (pos 5 *ℤ pos l +ℤ pos 6 *ℤ pos k +ℤ pos 5 *ℤ pos a +ℤ pos 8) 16) ≡ true
 natural v l k a hl hk ha = pos-inside v ((5 * l + 6 * k + 5 * a + 8) / 16) (omega arith)
 
 pub corner-inside : (v : ℕ) (filter : Bool) (wh : ℕ) (l k a : ℤ) → inside (pos v) l ≡ true → inside (pos v) k ≡ true → inside (pos v) a ≡ true
-    → inside (pos v) (cornerOf filter wh l k a) ≡ true
-unfolding cornerOf
+    → inside (pos v) (filteredCorner filter wh l k a) ≡ true
+unfolding filteredCorner
 corner-inside v filter wh l k a p q r = pick (filter && leb 24 wh)
   where
     sum : inside (pos v) (shrZ (pos 5 *ℤ l +ℤ pos 6 *ℤ k +ℤ pos 5 *ℤ a +ℤ pos 8) 16) ≡ true

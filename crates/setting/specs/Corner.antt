@@ -6,6 +6,6 @@ use lib.Dec.{leb}
 use lib.IntN.{ℤ, pos, _+ℤ_, _*ℤ_}
 use lib.Signed.{shrZ}
 
-unfoldable pub cornerOf : Bool → ℕ → ℤ → ℤ → ℤ → ℤ
-cornerOf filter wh left0 k above0 =
+unfoldable pub filteredCorner : Bool → ℕ → ℤ → ℤ → ℤ → ℤ
+filteredCorner filter wh left0 k above0 =
     cond (filter && leb 24 wh) (shrZ (pos 5 *ℤ left0 +ℤ pos 6 *ℤ k +ℤ pos 5 *ℤ above0 +ℤ pos 8) 16) k

@@ -5,8 +5,8 @@ use mathlib.Core.Bool.{Bool, cond}
 use lib.Dec.{leb}
 
 -- "Plain: 8: d>=56 1. 16: d>=40 1. 32: d>=32 3, >=4 2, >=1 1. Over 32: d>=1 3."
-unfoldable pub plain : ℕ → ℕ → ℕ
-plain wh d =
+unfoldable pub plainStrength : ℕ → ℕ → ℕ
+plainStrength wh d =
     cond (leb wh 8) (cond (leb 56 d) 1 0)
     (cond (leb wh 16) (cond (leb 40 d) 1 0)
     (cond (leb wh 24) (cond (leb 32 d) 3 (cond (leb 16 d) 2 (cond (leb 8 d) 1 0)))
@@ -14,8 +14,8 @@ plain wh d =
     (cond (leb 1 d) 3 0))))
 
 -- "Smooth neighbour: 8: >=64 2, >=40 1. 16: >=48 2, >=20 1. Over 24: >=1 3."
-unfoldable pub softer : ℕ → ℕ → ℕ
-softer wh d =
+unfoldable pub softerStrength : ℕ → ℕ → ℕ
+softerStrength wh d =
     cond (leb wh 8) (cond (leb 64 d) 2 (cond (leb 40 d) 1 0))
     (cond (leb wh 16) (cond (leb 48 d) 2 (cond (leb 20 d) 1 0))
     (cond (leb wh 24) (cond (leb 4 d) 3 0)
@@ -23,4 +23,4 @@ softer wh d =
 
 -- 0 where the edge filter is not set: it filters nothing
 unfoldable pub strength : Bool → Bool → ℕ → ℕ → ℕ
-strength filter smooth wh d = cond filter (cond smooth (softer wh d) (plain wh d)) 0
+strength filter smooth wh d = cond filter (cond smooth (softerStrength wh d) (plainStrength wh d)) 0

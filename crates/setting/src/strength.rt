@@ -1,10 +1,10 @@
 // "Filter strength by 2B and distance d of the angle from its edge's own axis" (document 01, Directions)
 ghost use mathlib.Core.Path.{_≡_};
-ghost use Rattle.setting.specs.Strength.{plain, softer, strength};
+ghost use Rattle.setting.specs.Strength.{plainStrength, softerStrength, strength};
 
 // With no smooth neighbour.
 fn plain_strength(wh: usize, d: usize) -> usize
-    ensures { λ r. ⌜ r ≡ plain wh d ⌝ }
+    ensures { λ r. ⌜ r ≡ plainStrength wh d ⌝ }
 {
     if wh <= 8 {
         if d >= 56 { 1 } else { 0 }
@@ -39,7 +39,7 @@ fn plain_strength(wh: usize, d: usize) -> usize
 
 // Next to a smooth neighbour.
 fn softer_strength(wh: usize, d: usize) -> usize
-    ensures { λ r. ⌜ r ≡ softer wh d ⌝ }
+    ensures { λ r. ⌜ r ≡ softerStrength wh d ⌝ }
 {
     if wh <= 8 {
         if d >= 64 {

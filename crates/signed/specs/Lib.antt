@@ -1,2 +1,2 @@
--- Signed numbers in a range.
+-- Signed numbers in a range: to be believed.
 pub mod Range

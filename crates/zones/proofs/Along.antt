@@ -14,13 +14,13 @@ use Rattle.interpolation.specs.Interp.{between}
 use Rattle.interpolation.proofs.Laws.{between-move}
 use Rattle.interpolation.proofs.Flat.{between-flat}
 use Rattle.edge_filter.specs.Filter.{padded}
-use Rattle.zones.specs.Zones.{along, zone2}
+use Rattle.zones.specs.Zones.{sampleAlong, zone2}
 use Rattle.zone_rows.specs.Listed.{listed}
 use Rattle.zones.specs.Either.{either}
 
 -- past the last place the interpolation gives its entry too
-pub along-is : (lum : Bool) (v n : ℕ) (e : ℕ → ℤ) (q : ℕ) → inside (pos v) (e n) ≡ true → along lum (pos v) n e q ≡ between lum (pos v) (padded 1 n e) q
-unfolding along
+pub along-is : (lum : Bool) (v n : ℕ) (e : ℕ → ℤ) (q : ℕ) → inside (pos v) (e n) ≡ true → sampleAlong lum (pos v) n e q ≡ between lum (pos v) (padded 1 n e) q
+unfolding sampleAlong
 along-is lum v n e q h = go (ltb n (q / 64)) refl
   where
     last : e n ≡ pos (natAbs (e n))
@@ -39,7 +39,7 @@ module _ (n size : ℕ) (e : ℕ → ℤ) (xs : List ℤ) (holds : (j : ℕ) →
   listed-is lum M q h =
       between-move M (padded 1 n e) (λ k. getD xs k (pos 0)) q 3 (λ k l m. ap e (omega arith) ∙ sym (holds (k + 3) (omega arith))) lum
 
-  pub along-listed : (lum : Bool) (v q : ℕ) → inside (pos v) (e n) ≡ true → q / 64 + 7 ≤ size → along lum (pos v) n e q ≡ listed lum (pos v) xs q
+  pub along-listed : (lum : Bool) (v q : ℕ) → inside (pos v) (e n) ≡ true → q / 64 + 7 ≤ size → sampleAlong lum (pos v) n e q ≡ listed lum (pos v) xs q
   along-listed lum v q h l = along-is lum v n e q h ∙ listed-is lum (pos v) q l
 
 -- two lists that hold zone 2's edges

@@ -1,7 +1,7 @@
 -- "Zone 2 gives each sample of the block exactly once" (document 01, Directions): a row's columns before its split are from the left edge, and those
 -- from it on are from the edge above. Assumes nothing.
 use mathlib.Core.Bool.{Bool, true, false, cond}
-use mathlib.Core.Path.{_≡_, refl, sym, _∙_, ap}
+use mathlib.Core.Path.{_≡_, refl, ap}
 use mathlib.Core.List.{List}
 use Prim.Native.Nat.{ℕ, _+_, _*_, _<_}
 use native.Mathlib.Omega.{arith}

@@ -8,14 +8,14 @@ use lib.IntN.{ℤ, pos}
 use Rattle.signed.specs.Range.{inside}
 use Rattle.interpolation.proofs.Inside.{between-inside}
 use Rattle.edge_filter.proofs.Filtered.{one-of}
-use Rattle.zones.specs.Zones.{along, zone2}
+use Rattle.zones.specs.Zones.{sampleAlong, zone2}
 
 module _ (M : ℕ) where
   abbrev In : ℤ → Type 0
   In z = inside (pos M) z ≡ true
 
-  pub along-inside : (lum : Bool) (n : ℕ) (e : ℕ → ℤ) (q : ℕ) → In (e n) → In (along lum (pos M) n e q)
-  unfolding along
+  pub along-inside : (lum : Bool) (n : ℕ) (e : ℕ → ℤ) (q : ℕ) → In (e n) → In (sampleAlong lum (pos M) n e q)
+  unfolding sampleAlong
   along-inside lum n e q h = one-of In (ltb n (q / 64)) _ _ h (between-inside M lum _ q)
 
   pub zone2-inside : (lum : Bool) (w h dx dy : ℕ) (above left : ℕ → ℤ) (r c : ℕ) → In (zone2 lum (pos M) w h dx dy above left r c)

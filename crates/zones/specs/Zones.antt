@@ -8,12 +8,12 @@ use Rattle.interpolation.specs.Interp.{between}
 use Rattle.edge_filter.specs.Filter.{padded}
 
 -- the sample at q 64ths from the corner, along an edge with its ends repeated: past the last place it is that place's entry
-unfoldable pub along : Bool → ℤ → ℕ → (ℕ → ℤ) → ℕ → ℤ
-along lum M n e q = cond (ltb n (q / 64)) (e n) (between lum M (padded 1 n e) q)
+unfoldable pub sampleAlong : Bool → ℤ → ℕ → (ℕ → ℤ) → ℕ → ℤ
+sampleAlong lum M n e q = cond (ltb n (q / 64)) (e n) (between lum M (padded 1 n e) q)
 
 -- zone 1 goes along the edge above: from entry c, by a step for each row down to r
 abbrev pub zone1 : Bool → ℤ → ℕ → ℕ → (ℕ → ℤ) → ℕ → ℕ → ℤ
-zone1 lum M n dx above r c = along lum M n above (64 * (c + 1) + (r + 1) * dx)
+zone1 lum M n dx above r c = sampleAlong lum M n above (64 * (c + 1) + (r + 1) * dx)
 
 -- zone 3 is zone 1 along the left edge, with rows for columns
 abbrev pub zone3 : Bool → ℤ → ℕ → ℕ → (ℕ → ℤ) → ℕ → ℕ → ℤ

@@ -12,7 +12,7 @@ use Rattle.signed.proofs.Bound.{back}
 use mir.Facts.{toZ-ofZ}
 use Rattle.lists.specs.Fill.{tab, filled}
 use Rattle.lists.proofs.Fill.{filled-none, filled-more, filled-all}
-use Rattle.paint.specs.Block.{added, addedAt}
+use Rattle.paint.specs.Block.{withDifference, addedAt}
 use Rattle.paint.proofs.add_row.Statement.{statement}
 use Rattle.paint.proofs.add_row.Tie as tie
 
@@ -62,7 +62,7 @@ loop-again : tie.Need-loop-again Inv-loop μ-loop
 loop-again c =
     let k = c .before .before .before .before in
     let s = k .before .before .before in
-    (omega arith, simp length-set (k .loop .inv .1), filled-more (k .loop .c) _ _ _ _ nan (omega arith) (k .loop .inv .2) (c .add .ensures ∙ ap (added (toZ w32 (ofZ w32 (s .args .m))) (getD (s .args .block .now) (k .loop .c) nan)) (back w16 {z = getD (s .args .differences .now) (k .loop .c) (pos 0)} (fit c))))
+    (omega arith, simp length-set (k .loop .inv .1), filled-more (k .loop .c) _ _ _ _ nan (omega arith) (k .loop .inv .2) (c .add .ensures ∙ ap (withDifference (toZ w32 (ofZ w32 (s .args .m))) (getD (s .args .block .now) (k .loop .c) nan)) (back w16 {z = getD (s .args .differences .now) (k .loop .c) (pos 0)} (fit c))))
 
 same-length : tie.Need-same-length Inv-loop μ-loop
 same-length c = c .before .loop .inv .1

@@ -7,7 +7,7 @@ use lib.IntN.{pos}
 use lib.Ieee.{Float, binary32, ofBits, add, le, lt, toUnsigned}
 use mir.Syntax.{w32}
 use Rattle.signed.proofs.Bound.{back-pos}
-use Rattle.samples.specs.Sample.{half, above, reading}
+use Rattle.samples.specs.Sample.{half, bound, reading}
 use Rattle.samples.proofs.Reading.{sum-within, reading-small}
 use Rattle.samples.proofs.read_sample.Statement.{statement}
 use Rattle.samples.proofs.read_sample.Tie as tie
@@ -28,7 +28,7 @@ module _ (c : tie.After-whole) where
 
 whole-requires : tie.Need-whole-requires
 whole-requires c κs =
-    subst (λ (h : Float). T (le half (add binary32 (c .args .v) h)) × T (lt (add binary32 (c .args .v) h) above)) (sym half-is) (sum-within (c .args .v) (c .pre))
+    subst (λ (h : Float). T (le half (add binary32 (c .args .v) h)) × T (lt (add binary32 (c .args .v) h) bound)) (sym half-is) (sum-within (c .args .v) (c .pre))
 
 cast-result : tie.Need-cast-result
 cast-result c = record { sfits = omega (arith, small c) }

@@ -13,7 +13,7 @@ use Rattle.signed.specs.Range.{inside}
 use Rattle.signed.proofs.Bound.{back-abs}
 use Rattle.signed.proofs.Range.{inside-abs}
 use Rattle.lists.specs.Block.{block}
-use Rattle.setting.specs.Corner.{cornerOf}
+use Rattle.setting.specs.Corner.{filteredCorner}
 use Rattle.setting.proofs.Samples.{corner-inside}
 use Rattle.angled.specs.AtAngle.{z2From}
 use Rattle.angled.proofs.zone2.z2_into.Statement.{statement}
@@ -45,7 +45,7 @@ module _ (v : tie.After-corner-of) where
   s = v .before .before .before .before .before
 
   abbrev K : ℤ
-  K = cornerOf (s .args .set .flags .«edge_filter») (s .args .bs + s .args .bs) (l s) (s .args .corner) (a s)
+  K = filteredCorner (s .args .set .flags .«edge_filter») (s .args .bs + s .args .bs) (l s) (s .args .corner) (a s)
 
   is : v .corner-of .result ≡ K
   is = simp (toZ-ofZ, s .fits .corner, l-back s, a-back s) at (v .corner-of .ensures)

@@ -1,6 +1,6 @@
 -- `short_line` meets its contract. The invariant: the first i places are taken. Assumes nothing.
 use borrow.Author.Needs.{sfits-of}
-use mathlib.Core.Path.{_≡_, sym, ap, subst}
+use mathlib.Core.Path.{_≡_, sym, subst}
 use Prim.Native.Nat.{ℕ, _+_, _*_, _-_, _^_, _≤_, _<_}
 use native.Mathlib.Omega.{arith}
 use lib.IntN.{ℤ, pos}

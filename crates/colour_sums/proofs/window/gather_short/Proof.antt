@@ -1,6 +1,6 @@
 -- `gather_short` meets its contract. Assumes nothing.
 use borrow.Author.Needs.{needs}
-use mathlib.Core.Path.{_≡_, sym, subst}
+use mathlib.Core.Path.{sym, subst}
 use Prim.Native.Nat.{ℕ, _-_, _^_}
 use Rattle.colour_terms.specs.Terms.{entry}
 use Rattle.colour_sums.specs.declared.lines.Lines.{Lines}

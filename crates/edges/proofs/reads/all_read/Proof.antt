@@ -1,7 +1,7 @@
 -- `all_read` meets its contract: both neighbours and the corner, each by its places in the plane's list. Assumes nothing.
 use borrow.Author.Tests.{not-true, not-false}
-use mathlib.Core.Path.{_≡_, refl, sym, _∙_, ap, subst}
-use mathlib.Core.Bool.{Bool, true}
+use mathlib.Core.Path.{_≡_, refl, sym, _∙_, subst}
+use mathlib.Core.Bool.{true}
 use lib.IntN.{pos}
 use lib.ListN.{length}
 use mir.Syntax.{w32}

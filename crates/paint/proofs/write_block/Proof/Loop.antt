@@ -14,7 +14,7 @@ use mir.Val.{toZ}
 use Rattle.lists.specs.Fill.{tab}
 use Rattle.lists.proofs.Fill.{length-tab, tab-at}
 use Rattle.lists.proofs.Block.{part-length}
-use Rattle.paint.specs.Block.{added, addedAt}
+use Rattle.paint.specs.Block.{addedAt}
 use Rattle.paint.specs.Painted.{painted}
 use Rattle.paint.proofs.RowByRow.{rowsOf, painted-row}
 use Rattle.paint.proofs.write_block.Tie as tie

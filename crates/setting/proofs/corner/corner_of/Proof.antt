@@ -11,7 +11,7 @@ use mir.Val.{SFits}
 use mir.Facts.{toZ-ofZ}
 use Rattle.signed.proofs.Range.{inside-abs}
 use Rattle.signed.proofs.Bound.{Bound, b-lit, b-add, b-mul, b-shr, b-fits}
-use Rattle.setting.specs.Corner.{cornerOf}
+use Rattle.setting.specs.Corner.{filteredCorner}
 use Rattle.setting.proofs.corner.corner_of.Statement.{statement}
 use Rattle.setting.proofs.corner.corner_of.Tie as tie
 
@@ -63,7 +63,7 @@ add-result-3 : tie.Need-add-result-3
 add-result-3 c = let f = fit (c .before .before) in search needs
 
 returns : tie.Need-returns
-unfolding cornerOf
+unfolding filteredCorner
 returns c =
     let s = c .before .before in
     let f = fit s in
@@ -71,7 +71,7 @@ returns c =
     simp (c .before .if1 .taken, large) (search needs)
 
 returns-2 : tie.Need-returns-2
-unfolding cornerOf
+unfolding filteredCorner
 returns-2 c =
     let s = c .before in
     ⊎-elim

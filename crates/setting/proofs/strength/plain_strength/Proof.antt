@@ -1,27 +1,27 @@
 -- `plain_strength` meets its contract: each answer is rewritten by the tests that led to it. Assumes nothing.
 use borrow.Author.Tests.{le-leb, lt-leb}
-use Rattle.setting.specs.Strength.{plain}
+use Rattle.setting.specs.Strength.{plainStrength}
 use Rattle.setting.proofs.strength.plain_strength.Statement.{statement}
 use Rattle.setting.proofs.strength.plain_strength.Tie as tie
 
 returns : tie.Need-returns
-unfolding plain
+unfolding plainStrength
 returns c = simp (le-leb _ _ (c .if2 .taken), le-leb _ _ (c .before .if1 .taken))
 
 returns-2 : tie.Need-returns-2
-unfolding plain
+unfolding plainStrength
 returns-2 c = simp (lt-leb _ _ (c .if2 .left), le-leb _ _ (c .before .if1 .taken))
 
 returns-3 : tie.Need-returns-3
-unfolding plain
+unfolding plainStrength
 returns-3 c = simp (le-leb _ _ (c .if4 .taken), le-leb _ _ (c .before .if3 .taken), lt-leb _ _ (c .before .before .if1 .left))
 
 returns-4 : tie.Need-returns-4
-unfolding plain
+unfolding plainStrength
 returns-4 c = simp (lt-leb _ _ (c .if4 .left), le-leb _ _ (c .before .if3 .taken), lt-leb _ _ (c .before .before .if1 .left))
 
 returns-5 : tie.Need-returns-5
-unfolding plain
+unfolding plainStrength
 returns-5 c =
     simp (
       le-leb _ _ (c .if6 .taken),
@@ -31,7 +31,7 @@ returns-5 c =
     )
 
 returns-6 : tie.Need-returns-6
-unfolding plain
+unfolding plainStrength
 returns-6 c =
     simp (
       le-leb _ _ (c .if7 .taken),
@@ -42,7 +42,7 @@ returns-6 c =
     )
 
 returns-7 : tie.Need-returns-7
-unfolding plain
+unfolding plainStrength
 returns-7 c =
     simp (
       le-leb _ _ (c .if8 .taken),
@@ -54,7 +54,7 @@ returns-7 c =
     )
 
 returns-8 : tie.Need-returns-8
-unfolding plain
+unfolding plainStrength
 returns-8 c =
     simp (
       lt-leb _ _ (c .if8 .left),
@@ -66,7 +66,7 @@ returns-8 c =
     )
 
 returns-9 : tie.Need-returns-9
-unfolding plain
+unfolding plainStrength
 returns-9 c =
     simp (
       le-leb _ _ (c .if10 .taken),
@@ -77,7 +77,7 @@ returns-9 c =
     )
 
 returns-10 : tie.Need-returns-10
-unfolding plain
+unfolding plainStrength
 returns-10 c =
     simp (
       le-leb _ _ (c .if11 .taken),
@@ -89,7 +89,7 @@ returns-10 c =
     )
 
 returns-11 : tie.Need-returns-11
-unfolding plain
+unfolding plainStrength
 returns-11 c =
     simp (
       le-leb _ _ (c .if12 .taken),
@@ -102,7 +102,7 @@ returns-11 c =
     )
 
 returns-12 : tie.Need-returns-12
-unfolding plain
+unfolding plainStrength
 returns-12 c =
     simp (
       lt-leb _ _ (c .if12 .left),
@@ -115,7 +115,7 @@ returns-12 c =
     )
 
 returns-13 : tie.Need-returns-13
-unfolding plain
+unfolding plainStrength
 returns-13 c =
     simp (
       le-leb _ _ (c .if13 .taken),
@@ -126,7 +126,7 @@ returns-13 c =
     )
 
 returns-14 : tie.Need-returns-14
-unfolding plain
+unfolding plainStrength
 returns-14 c =
     simp (
       lt-leb _ _ (c .if13 .left),

@@ -1,16 +1,16 @@
 -- `softer_strength` meets its contract: each answer is rewritten by the tests that led to it. Assumes nothing.
 use native.Mathlib.Omega.{arith}
 use borrow.Author.Tests.{le-leb, lt-leb}
-use Rattle.setting.specs.Strength.{softer}
+use Rattle.setting.specs.Strength.{softerStrength}
 use Rattle.setting.proofs.strength.softer_strength.Statement.{statement}
 use Rattle.setting.proofs.strength.softer_strength.Tie as tie
 
 returns : tie.Need-returns
-unfolding softer
+unfolding softerStrength
 returns c = simp (le-leb _ _ (c .if2 .taken), le-leb _ _ (c .before .if1 .taken))
 
 returns-2 : tie.Need-returns-2
-unfolding softer
+unfolding softerStrength
 returns-2 c =
     simp (
       le-leb 40 (c .before .before .before .args .d) (omega arith),
@@ -19,7 +19,7 @@ returns-2 c =
     )
 
 returns-3 : tie.Need-returns-3
-unfolding softer
+unfolding softerStrength
 returns-3 c =
     simp (
       lt-leb 40 (c .before .before .before .args .d) (omega arith),
@@ -28,11 +28,11 @@ returns-3 c =
     )
 
 returns-4 : tie.Need-returns-4
-unfolding softer
+unfolding softerStrength
 returns-4 c = simp (le-leb _ _ (c .if5 .taken), le-leb _ _ (c .before .if4 .taken), lt-leb _ _ (c .before .before .if1 .left))
 
 returns-5 : tie.Need-returns-5
-unfolding softer
+unfolding softerStrength
 returns-5 c =
     simp (
       le-leb _ _ (c .if6 .taken),
@@ -42,7 +42,7 @@ returns-5 c =
     )
 
 returns-6 : tie.Need-returns-6
-unfolding softer
+unfolding softerStrength
 returns-6 c =
     simp (
       lt-leb _ _ (c .if6 .left),
@@ -52,7 +52,7 @@ returns-6 c =
     )
 
 returns-7 : tie.Need-returns-7
-unfolding softer
+unfolding softerStrength
 returns-7 c =
     simp (
       le-leb _ _ (c .if8 .taken),
@@ -62,7 +62,7 @@ returns-7 c =
     )
 
 returns-8 : tie.Need-returns-8
-unfolding softer
+unfolding softerStrength
 returns-8 c =
     simp (
       lt-leb _ _ (c .if8 .left),
@@ -72,7 +72,7 @@ returns-8 c =
     )
 
 returns-9 : tie.Need-returns-9
-unfolding softer
+unfolding softerStrength
 returns-9 c =
     simp (
       le-leb _ _ (c .if9 .taken),
@@ -82,7 +82,7 @@ returns-9 c =
     )
 
 returns-10 : tie.Need-returns-10
-unfolding softer
+unfolding softerStrength
 returns-10 c =
     simp (
       lt-leb _ _ (c .if9 .left),

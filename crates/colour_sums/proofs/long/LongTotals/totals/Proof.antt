@@ -1,7 +1,6 @@
 -- `LongTotals::totals` meets its contract. Assumes nothing.
-use borrow.Author.Needs.{needs}
 use mathlib.Core.Path.{_∙_, ap}
-use Prim.Native.Nat.{ℕ, _-_}
+use Prim.Native.Nat.{_-_}
 use native.Mathlib.Omega.{arith}
 use Rattle.signed.proofs.Naturals.{pow-le}
 use Rattle.colour_sums.specs.Fast.{nineOf}

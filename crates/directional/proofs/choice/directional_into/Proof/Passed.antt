@@ -2,9 +2,8 @@
 use native.Mathlib.Omega.{arith}
 use mathlib.Core.Path.{_≡_, sym, _∙_}
 use mathlib.Core.Bool.{true, false}
-use lib.IntN.{pos, natAbs}
 use Prim.Native.Nat.{ℕ, _*_, _≤_, _<_}
-use Rattle.signed.specs.Range.{inside, Edge}
+use Rattle.signed.specs.Range.{Edge}
 use Rattle.direct_calls.specs.Given.{Given}
 use Rattle.direct_calls.proofs.Given.{given-more}
 use Rattle.signed.proofs.Range.{inside-abs}
