@@ -14,7 +14,7 @@ use mir.Val.{toZ}
 use Rattle.lists.specs.Fill.{tab}
 use Rattle.lists.proofs.Fill.{length-tab, tab-at}
 use Rattle.lists.proofs.Block.{part-length}
-use Rattle.paint.specs.Block.{addedAt}
+use Rattle.paint.specs.Block.{withDifference, addedAt}
 use Rattle.paint.specs.Painted.{painted}
 use Rattle.paint.proofs.RowByRow.{rowsOf, painted-row}
 use Rattle.paint.proofs.write_block.Tie as tie
@@ -45,7 +45,7 @@ again W x y bs r o k m block differences plane₀ plane row wide eo ek el ep roo
     (λ j. putMid (eo j) (en j) (ep j) row)
     ∙ painted-row W x y bs wide (at m block differences bs) plane₀ r row (omega arith) long (λ i h.
     ap (λ l. getD l i nan) er ∙ tab-at _ _ i nan (omega (arith, part-length o bs plane room))
-    ∙ (λ j. added m (part-at k bs block i nan h j) (part-at k bs differences i (pos 0) h j))
+    ∙ (λ j. withDifference m (part-at k bs block i nan h j) (part-at k bs differences i (pos 0) h j))
     ∙ ap (λ t. addedAt m block differences (t + i)) ek)
   where
     en : o + bs - o ≡ bs
