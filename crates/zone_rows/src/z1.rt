@@ -41,11 +41,9 @@ pub fn z1_rows(w: usize, h: usize, lum: bool, dx: usize, m: i32, list: &[i32], o
     requires { ⌜ Holds (h * dx / 64 + w + 7) (now list) ⌝ }
     ensures { λ _. ⌜ now (out .exit) ≡ block w h (ahead lum m dx (now (list .entry))) (now (out .entry)) ⌝ }
 {
+    let mut filters = interpolation::table::chroma_table();
     if lum {
-        let filters = interpolation::table::luma_table();
-        z1_by(w, h, lum, &filters, dx, m, list, out);
-    } else {
-        let filters = interpolation::table::chroma_table();
-        z1_by(w, h, lum, &filters, dx, m, list, out);
+        filters = interpolation::table::luma_table();
     }
+    z1_by(w, h, lum, &filters, dx, m, list, out);
 }

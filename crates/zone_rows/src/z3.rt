@@ -82,11 +82,9 @@ pub fn z3_strips(
     requires { ⌜ Holds (w * dy / 64 + 4 * n + 7) (now list) ⌝ }
     ensures { λ _. ⌜ now (out .exit) ≡ block w (4 * n) (λ r c. ahead lum m dy (now (list .entry)) c r) (now (out .entry)) ⌝ }
 {
+    let mut filters = interpolation::table::chroma_table();
     if lum {
-        let filters = interpolation::table::luma_table();
-        z3_by(w, n, lum, &filters, dy, m, list, strip, out);
-    } else {
-        let filters = interpolation::table::chroma_table();
-        z3_by(w, n, lum, &filters, dy, m, list, strip, out);
+        filters = interpolation::table::luma_table();
     }
+    z3_by(w, n, lum, &filters, dy, m, list, strip, out);
 }

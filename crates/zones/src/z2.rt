@@ -93,11 +93,9 @@ pub fn z2_strips(
     requires { ⌜ (inside (pos 4095) m ≡ true) × Holds (w + 6) (now top) × Holds (4 * n + 6) (now left) ⌝ }
     ensures { λ _. ⌜ now (out .exit) ≡ block w (4 * n) (either lum m dx dy (now (top .entry)) (now (left .entry))) (now (out .entry)) ⌝ }
 {
+    let mut filters = interpolation::table::chroma_table();
     if lum {
-        let filters = interpolation::table::luma_table();
-        z2_by(w, n, lum, &filters, dx, dy, m, top, left, strip, out);
-    } else {
-        let filters = interpolation::table::chroma_table();
-        z2_by(w, n, lum, &filters, dx, dy, m, top, left, strip, out);
+        filters = interpolation::table::luma_table();
     }
+    z2_by(w, n, lum, &filters, dx, dy, m, top, left, strip, out);
 }
