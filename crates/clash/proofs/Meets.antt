@@ -7,7 +7,7 @@ use Prim.Native.Nat.{ℕ}
 use Rattle.reorder.specs.Rect.{In, InAny, meetB, crossB, clashB}
 use Rattle.reorder.proofs.Rect.{meet-decides}
 use Rattle.reorder.proofs.Cross.{clash-decides}
-use Rattle.edges.specs.declared.spec.IntraRefSpec.{IntraRefSpec}
+use Rattle.block_spec.specs.declared.spec.IntraRefSpec.{IntraRefSpec}
 use Rattle.job.specs.Row.{Row, specOf}
 use Rattle.job.specs.Rules.{stands}
 use Rattle.job.specs.Rects.{runsOf, readsOf, writesOf, clashOf}

@@ -5,7 +5,7 @@ use mathlib.Core.List.{[], _∷_}
 use Prim.Native.Nat.{ℕ, _+_, _-_, min, max}
 use native.Mathlib.Omega.{arith}
 use borrow.Author.Tests.{le-ltb}
-use Rattle.edges.specs.declared.spec.IntraRefSpec.{IntraRefSpec}
+use Rattle.block_spec.specs.declared.spec.IntraRefSpec.{IntraRefSpec}
 use Rattle.reorder.specs.Rect.{Rect, meetB, meetAnyB, crossB}
 use Rattle.reorder.proofs.Cross.{cross-one}
 use Rattle.job.specs.Rects.{rectIf, runsOf}

@@ -2,7 +2,7 @@
 // the other reads or writes: the block of one is held against the runs that the other reads, and against its block.
 use crate::rect;
 use crate::rect::Rect;
-use edges::spec::IntraRefSpec;
+use block_spec::spec::IntraRefSpec;
 ghost use mathlib.Core.Path.{_≡_};
 ghost use mathlib.Core.Bool.{true, _&&_, _||_};
 ghost use mathlib.Core.List.{[], _∷_};

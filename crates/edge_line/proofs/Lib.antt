@@ -5,4 +5,3 @@ pub mod Along
 pub mod Runs
 pub mod Onward
 pub mod Halves
-pub mod Tail

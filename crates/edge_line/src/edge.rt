@@ -1,17 +1,17 @@
-// An edge of a neighbour that is there, along a line of samples from `start` on: `near` of them, `more` from entry bs on, and repeats in between and
-// after them. An edge of one that is missing is one number.
+// An edge of a neighbour that is there, along a line of samples from `start` on: `near` of them, `more` from entry bs on, and repeats in between. What
+// follows them, in each edge, is one number.
 use crate::run;
-use numbers::size::Size;
 ghost use mathlib.Core.Path.{_≡_};
 ghost use mathlib.Core.Bool.{true};
-ghost use Prim.Native.Nat.{ℕ, _*_, _≤_, _<_};
+ghost use Prim.Native.Nat.{ℕ, _+_, _*_, _≤_, _<_, min};
 ghost use lib.IntN.{pos};
 ghost use lib.ListN.{length};
 ghost use Rattle.signed.specs.Range.{inside};
+ghost use Rattle.lists.specs.Fill.{filled};
 ghost use Rattle.samples.specs.Sample.{isSample, reading, Readable};
 ghost use Rattle.edge_line.specs.Along.{along};
 ghost use Rattle.edge_line.specs.Every.{every};
-ghost use Rattle.edge_line.specs.Edge.{edgeOf};
+ghost use Rattle.edge_line.specs.Onward.{onward};
 ghost use Rattle.edge_line.specs.Run.{runAt, Line};
 
 // Whether each sample behind the 2 bs entries is a number in 0..m. Two runs that meet are tested as one.
@@ -37,8 +37,8 @@ pub fn edge_in_range(
     run::run_in_range(plane, start + bs * stride, stride, more, m)
 }
 
-// The edge, read.
-pub fn read_edge(
+// The samples behind its first bs + min(top, bs) entries, read: how many entries that is.
+pub fn read_line(
     plane: &[f32],
     start: usize,
     stride: usize,
@@ -46,28 +46,22 @@ pub fn read_edge(
     available: usize,
     top: usize,
     edge: &mut [i32],
-)
+) -> usize
     requires { ⌜ Line (length (now plane)) start stride bs available top × (128 ≤ length (now edge)) ⌝ }
     requires { ⌜ ((c : ℕ) → c < 2 * bs → Readable (runAt (now plane) start stride (along bs available top c))) ⌝ }
-    ensures { λ _. ⌜ now (edge .exit) ≡ edgeOf bs (λ c. pos (reading (runAt (now (plane .entry)) start stride (along bs available top c)))) (now (edge .entry)) ⌝ }
+    ensures { λ r. ⌜ (r ≡ bs + min top bs) × (now (edge .exit) ≡ filled (bs + min top bs) (λ c. pos (reading (runAt (now (plane .entry)) start stride (along bs available top c)))) (now (edge .entry))) ⌝ }
 {
     let near = minmax::min(bs, available);
     let end = bs + minmax::min(top, bs);
-    let all = 2 * bs;
-    let cap = Size::REF_CAP;
-    run::read_and_repeat(plane, start, stride, 0, near, bs, edge);
-    run::read_and_repeat(plane, start + bs * stride, stride, bs, end, all, edge);
-    run::repeat(&mut edge[all..cap], 0);
+    run::read_and_repeat(plane, start, stride, near, bs, edge);
+    run::read_run(plane, start + bs * stride, stride, &mut edge[bs..end]);
+    end
 }
 
-// The edge, of one number.
-pub fn flat_edge(v: i32, bs: usize, edge: &mut [i32])
-    requires { ⌜ (bs ≤ 64) × (128 ≤ length (now edge)) ⌝ }
-    ensures { λ _. ⌜ now (edge .exit) ≡ edgeOf bs (λ c. v) (now (edge .entry)) ⌝ }
+// One number from entry `from` on, up to `to`.
+pub fn repeat_from(v: i32, from: usize, to: usize, edge: &mut [i32])
+    requires { ⌜ (from ≤ to) × (to ≤ length (now edge)) ⌝ }
+    ensures { λ _. ⌜ now (edge .exit) ≡ filled to (onward (now (edge .entry)) from v) (now (edge .entry)) ⌝ }
 {
-    let zero = 0;
-    let end = 2 * bs;
-    let cap = Size::REF_CAP;
-    run::repeat(&mut edge[zero..end], v);
-    run::repeat(&mut edge[end..cap], 0);
+    run::repeat(&mut edge[from..to], v);
 }

@@ -1,7 +1,7 @@
 // Runs of the plane's samples: n of them, the first at `start` and each next one `stride` further on. Along a row the stride is 1, down a column W.
 ghost use mathlib.Core.Path.{_≡_};
 ghost use mathlib.Core.Bool.{true};
-ghost use Prim.Native.Nat.{ℕ, _-_, _≤_, _<_};
+ghost use Prim.Native.Nat.{ℕ, _-_, _≤_, _<_, min};
 ghost use lib.IntN.{pos};
 ghost use lib.ListN.{length};
 ghost use Rattle.signed.specs.Range.{inside};
@@ -9,7 +9,6 @@ ghost use Rattle.lists.specs.Fill.{tab, filled};
 ghost use Rattle.samples.specs.Sample.{isSample, reading, Readable};
 ghost use Rattle.edge_line.specs.Every.{every};
 ghost use Rattle.edge_line.specs.Run.{Run, runAt};
-ghost use Rattle.edge_line.specs.Onward.{onward};
 
 // Whether each sample of a run is a number in 0..m.
 pub fn run_in_range(plane: &[f32], start: usize, stride: usize, n: usize, m: i32) -> bool
@@ -54,21 +53,21 @@ pub fn repeat(part: &mut [i32], v: i32)
     }
 }
 
-// Entries from `from` on: a run up to `end`, then the entry before `end` again up to `all`.
+// Entries from the first on: a run up to `end`, then the entry before `end` again up to `all`.
 pub fn read_and_repeat(
     plane: &[f32],
     start: usize,
     stride: usize,
-    from: usize,
     end: usize,
     all: usize,
     edge: &mut [i32],
 )
-    requires { ⌜ Run (length (now plane)) start stride (end - from) × (from ≤ end) × (1 ≤ end) × (end ≤ all) × (all ≤ length (now edge)) ⌝ }
-    requires { ⌜ ((i : ℕ) → i < end - from → Readable (runAt (now plane) start stride i)) ⌝ }
-    ensures { λ _. ⌜ now (edge .exit) ≡ filled all (onward (now (edge .entry)) from end (λ i. pos (reading (runAt (now (plane .entry)) start stride i)))) (now (edge .entry)) ⌝ }
+    requires { ⌜ Run (length (now plane)) start stride end × (1 ≤ end) × (end ≤ all) × (all ≤ length (now edge)) ⌝ }
+    requires { ⌜ ((i : ℕ) → i < end → Readable (runAt (now plane) start stride i)) ⌝ }
+    ensures { λ _. ⌜ now (edge .exit) ≡ filled all (λ i. pos (reading (runAt (now (plane .entry)) start stride (min i (end - 1))))) (now (edge .entry)) ⌝ }
 {
-    read_run(plane, start, stride, &mut edge[from..end]);
+    let zero = 0;
+    read_run(plane, start, stride, &mut edge[zero..end]);
     let last = edge[end - 1];
     repeat(&mut edge[end..all], last);
 }

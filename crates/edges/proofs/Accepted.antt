@@ -11,10 +11,12 @@ use Rattle.numbers.specs.declared.answer.Answer.the-variants.{Done, ShortList}
 use Rattle.signed.proofs.Range.{and-both}
 use Rattle.refusals.specs.Ladder.{_else_}
 use Rattle.refusals.proofs.Ladder.{all-kept, kept-append}
-use Rattle.edges.specs.declared.spec.IntraRefSpec.{IntraRefSpec}
-use Rattle.edges.specs.Rules.{outputsLong, allRead, sizeRules, placeRules, readRules, refsRules, refsAnswer}
-use Rattle.edges.specs.Placed.{Placed}
-use Rattle.edges.proofs.Placed.{standing, placed}
+use Rattle.block_spec.specs.declared.spec.IntraRefSpec.{IntraRefSpec}
+use Rattle.edges.specs.Rules.{outputsLong, refsRules, refsAnswer}
+use Rattle.neighbours.specs.Read.{allRead, readRules}
+use Rattle.block_spec.specs.Rules.{sizeRules, placeRules}
+use Rattle.block_spec.specs.Placed.{Placed}
+use Rattle.block_spec.proofs.Placed.{standing, placed}
 
 pub record Accepted (plane : List Float) (W : ℕ) (s : IntraRefSpec) (above left corner : ℕ) : Type 0 where
   pub place : Placed (length plane) W s

@@ -11,11 +11,12 @@ use Rattle.numbers.specs.Depth.{most}
 use Rattle.lists.proofs.Fill.{length-filled}
 use Rattle.direct_calls.specs.Given.{Given}
 use Rattle.edge_line.specs.Edge.{entryOf}
-use Rattle.edges.specs.declared.spec.IntraRefSpec.{IntraRefSpec}
-use Rattle.edges.specs.Behind.{aboveBehind, leftBehind}
-use Rattle.edges.specs.Rules.{allRead}
-use Rattle.edges.specs.Refs.{valueOf, Lists, refsOf}
-use Rattle.edges.specs.Placed.{Placed}
+use Rattle.block_spec.specs.declared.spec.IntraRefSpec.{IntraRefSpec}
+use Rattle.block_spec.specs.Behind.{aboveBehind, leftBehind}
+use Rattle.neighbours.specs.Read.{allRead}
+use Rattle.neighbours.specs.Values.{valueOf}
+use Rattle.edges.specs.Refs.{Lists, refsOf}
+use Rattle.block_spec.specs.Placed.{Placed}
 use Rattle.edges.proofs.Inside.{built-in-range}
 
 pub built-given : {W : ℕ} {s : IntraRefSpec} (plane : List Float) (before : Lists) (n : ℕ) → Placed (length plane) W s → allRead plane W s ≡ true

@@ -17,14 +17,16 @@ use Rattle.signed.proofs.Range.{and-both, pos-inside}
 use Rattle.lists.proofs.Fill.{filled-at}
 use Rattle.edge_line.specs.Edge.{entryOf, edgeOf}
 use Rattle.samples.proofs.Reading.{reading-most}
-use Rattle.edges.specs.declared.spec.IntraRefSpec.{IntraRefSpec}
-use Rattle.edges.specs.Behind.{Behind, place, number, aboveBehind, leftBehind, cornerBehind}
-use Rattle.edges.specs.Rules.{behindInRange, isBase, allRead}
-use Rattle.edges.specs.Refs.{valueOf, Lists, refsOf}
-use Rattle.edges.specs.Placed.{Placed}
-use Rattle.edges.proofs.Behind.{neighbours, above-there, above-by-left, above-by-base, left-there, left-by-above, left-by-base}
-use Rattle.edges.proofs.Behind.{corner-by-both, corner-by-above, corner-by-left, corner-by-base}
-use Rattle.edges.proofs.Tested.{above-read, left-read, corner-read}
+use Rattle.block_spec.specs.declared.spec.IntraRefSpec.{IntraRefSpec}
+use Rattle.block_spec.specs.Behind.{Behind, place, number, aboveBehind, leftBehind, cornerBehind}
+use Rattle.neighbours.specs.Read.{behindInRange, allRead}
+use Rattle.block_spec.specs.Rules.{isBase}
+use Rattle.neighbours.specs.Values.{valueOf}
+use Rattle.edges.specs.Refs.{Lists, refsOf}
+use Rattle.block_spec.specs.Placed.{Placed}
+use Rattle.block_spec.proofs.Behind.{neighbours, above-there, above-by-left, above-by-base, left-there, left-by-above, left-by-base}
+use Rattle.block_spec.proofs.Behind.{corner-by-both, corner-by-above, corner-by-left, corner-by-base}
+use Rattle.neighbours.proofs.Tested.{above-read, left-read, corner-read}
 
 -- what stands behind an entry is in 0..M, if it is a number
 abbrev NumberIn : ℕ → Behind → Type 0

@@ -1,9 +1,4 @@
--- Laws of the edges' places and of the samples behind them.
-pub mod Placed
-pub mod Behind
-pub mod Words
-pub mod Sides
-pub mod Tested
+-- Laws of edges that a call builds.
 pub mod Accepted
 pub mod Inside
 pub mod Given

@@ -7,21 +7,10 @@ use lib.ListN.{length}
 use Rattle.numbers.specs.declared.answer.Answer.{Answer}
 use Rattle.lists.specs.Fill.{filled}
 use Rattle.refusals.specs.Promise.{lent, Promise}
-use Rattle.edge_line.specs.Edge.{edgeOf}
-use Rattle.edges.specs.declared.spec.IntraRefSpec.{IntraRefSpec}
-use Rattle.edges.specs.Behind.{Behind, aboveBehind, leftBehind, cornerBehind}
-use Rattle.edges.specs.Side.{spotOf, spotValue}
+use Rattle.block_spec.specs.declared.spec.IntraRefSpec.{IntraRefSpec}
+use Rattle.block_spec.specs.Behind.{cornerBehind}
+use Rattle.neighbours.specs.Values.{valueOf, aboveOf, leftOf}
 use Rattle.edges.specs.Rules.{refsAnswer}
-
--- the number that an entry is: its sample as it reads, or the number itself
-abbrev pub valueOf : ℕ → List Float → Behind → ℤ
-valueOf W plane b = spotValue plane (spotOf W b)
-
-abbrev pub aboveOf : List Float → ℕ → IntraRefSpec → List ℤ → List ℤ
-aboveOf plane W s before = edgeOf (s .b) (λ c. valueOf W plane (aboveBehind s c)) before
-
-abbrev pub leftOf : List Float → ℕ → IntraRefSpec → List ℤ → List ℤ
-leftOf plane W s before = edgeOf (s .b) (λ c. valueOf W plane (leftBehind s c)) before
 
 abbrev pub cornerOf : List Float → ℕ → IntraRefSpec → List ℤ → List ℤ
 cornerOf plane W s before = filled 1 (λ i. valueOf W plane (cornerBehind s)) before

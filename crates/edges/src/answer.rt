@@ -1,59 +1,31 @@
-// What a call answers: the rules in the order of checking, by the segments that `build_refs` and a job share (document 01, Refusal numbers).
-use crate::reads;
-use crate::rules;
-use crate::spec::IntraRefSpec;
-use crate::spec::Lengths;
+// What `build_refs` answers: its rules in the order of checking (document 01, Refusal numbers).
+use block_spec::answer;
+use block_spec::rules;
+use block_spec::spec::IntraRefSpec;
+use neighbours::reads;
 use numbers::answer::Answer;
-use numbers::depth::Depth;
-use numbers::depth::FoundDepth;
-use numbers::size::FoundSize;
 use numbers::size::Size;
 ghost use mathlib.Core.Path.{_≡_};
-ghost use mathlib.Core.Bool.{true};
-ghost use lib.IntN.{pos};
-ghost use Rattle.numbers.specs.Depth.{isDepth, most};
-ghost use Rattle.refusals.specs.Ladder.{ladder};
-ghost use Rattle.edges.specs.Rules.{sizeRules, placeRules, refsAnswer};
+ghost use Rattle.edges.specs.Rules.{outputsLong, refsAnswer};
 
-// M of the depth whose D is d.
-pub fn max_of(d: u16) -> i32
-    requires { ⌜ isDepth d ≡ true ⌝ }
-    ensures { λ r. ⌜ r ≡ pos (most d) ⌝ }
-{
-    let FoundDepth::Is(depth) = Depth::of(d) else {
-        return 0;
-    };
-    depth.max()
+// How many entries the outputs of a call have.
+pub struct Lengths {
+    pub above: usize,
+    pub left: usize,
+    pub corner: usize,
 }
 
-// 1 and 2.
-pub fn size_answer(s: IntraRefSpec) -> Answer
-    ensures { λ r. ⌜ r ≡ ladder (sizeRules s) ⌝ }
+// 9: the outputs.
+fn outputs_long(n: Lengths) -> bool
+    ensures { λ r. ⌜ r ≡ outputsLong (n .above) (n .left) (n .corner) ⌝ }
 {
-    let FoundSize::Is(_) = Size::of(s.b) else {
-        return Answer::BadSize;
-    };
-    let FoundDepth::Is(_) = Depth::of(s.d) else {
-        return Answer::BadDepth;
-    };
-    Answer::Done
-}
-
-// 4, 5 and 6, in a plane of w by h samples.
-pub fn place_answer(w: usize, h: usize, s: IntraRefSpec) -> Answer
-    requires { ⌜ isDepth (s .d) ≡ true ⌝ }
-    ensures { λ r. ⌜ r ≡ ladder (placeRules w h s) ⌝ }
-{
-    if !rules::is_inside(w, h, s) {
-        return Answer::OutsidePlane;
+    if n.above < Size::REF_CAP {
+        return false;
     }
-    if !rules::has_neighbours(w, h, s) {
-        return Answer::NoNeighbour;
+    if n.left < Size::REF_CAP {
+        return false;
     }
-    if !rules::is_base(s, max_of(s.d)) {
-        return Answer::BadBase;
-    }
-    Answer::Done
+    1 <= n.corner
 }
 
 // What `build_refs` answers, whose outputs have these lengths.
@@ -63,18 +35,18 @@ pub fn refused(plane: &[f32], width: usize, height: usize, s: IntraRefSpec, n: L
     if !rules::is_plane(width, height, plane.len()) {
         return Answer::BadPlane;
     }
-    let sizes = size_answer(s);
+    let sizes = answer::size_answer(s);
     if !sizes.is_done() {
         return sizes;
     }
-    let places = place_answer(width, height, s);
+    let places = answer::place_answer(width, height, s);
     if !places.is_done() {
         return places;
     }
-    if !rules::outputs_long(n) {
+    if !outputs_long(n) {
         return Answer::ShortList;
     }
-    if !reads::all_read(plane, width, s, max_of(s.d)) {
+    if !reads::all_read(plane, width, s, answer::max_of(s.d)) {
         return Answer::BadSample;
     }
     Answer::Done

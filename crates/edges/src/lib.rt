@@ -1,14 +1,10 @@
 // From samples to edges (document 01, section of that name): `build_refs` takes any input, tests 20, 1, 2, 4, 5, 6, 9, 8 in that order, and writes
 // both edges and the corner.
-pub mod answer;
-pub mod fill;
-pub mod reads;
-pub mod rules;
-mod side;
-pub mod spec;
+mod answer;
 
-use crate::spec::IntraRefSpec;
-use crate::spec::Lengths;
+use crate::answer::Lengths;
+use block_spec::spec::IntraRefSpec;
+use neighbours::fill;
 use numbers::answer::Answer;
 ghost use Rattle.edges.specs.Refs.{Built};
 

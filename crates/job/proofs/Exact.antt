@@ -6,8 +6,8 @@ use Prim.Native.Nat.{ℕ, _+_, _-_, _≤_, min}
 use native.Mathlib.Omega.{arith}
 use Rattle.signed.proofs.Range.{and-both}
 use Rattle.edge_line.proofs.Every.{and-of}
-use Rattle.edges.specs.declared.spec.IntraRefSpec.{IntraRefSpec}
-use Rattle.edges.specs.Placed.{Standing}
+use Rattle.block_spec.specs.declared.spec.IntraRefSpec.{IntraRefSpec}
+use Rattle.block_spec.specs.Placed.{Standing}
 use Rattle.reorder.specs.Rect.{InAny, AllWide}
 use Rattle.job.specs.Row.{Row, specOf}
 use Rattle.job.specs.Rules.{stands}

@@ -5,7 +5,7 @@ use mathlib.Core.Bool.{Bool, true, false, false≢true}
 use Prim.Native.Nat.{ℕ, _+_, _-_, _*_, _≤_}
 use native.Mathlib.Omega.{arith}
 use lib.IntN.{ℤ}
-use Rattle.edges.specs.Behind.{Behind, place, number}
+use Rattle.block_spec.specs.Behind.{Behind, place, number}
 use Rattle.reorder.specs.Rect.{Wide, In}
 use Rattle.job.specs.Touches.{IsAt}
 use Rattle.job.specs.Rects.{rectIf}

@@ -8,11 +8,11 @@ use Rattle.signed.proofs.Range.{and-both}
 use Rattle.edge_line.specs.Along.{along}
 use Rattle.edge_line.proofs.Along.{along-here, along-far, along-in}
 use Rattle.edge_line.proofs.Every.{and-of}
-use Rattle.edges.specs.Behind.{place}
-use Rattle.edges.specs.declared.spec.IntraRefSpec.{IntraRefSpec}
-use Rattle.edges.proofs.Behind.{neighbours, above-there, above-by-left, above-by-base, left-there, left-by-above, left-by-base}
-use Rattle.edges.proofs.Behind.{corner-by-both, corner-by-above, corner-by-left, corner-by-base}
-use Rattle.edges.specs.Placed.{Standing}
+use Rattle.block_spec.specs.Behind.{place}
+use Rattle.block_spec.specs.declared.spec.IntraRefSpec.{IntraRefSpec}
+use Rattle.block_spec.proofs.Behind.{neighbours, above-there, above-by-left, above-by-base, left-there, left-by-above, left-by-base}
+use Rattle.block_spec.proofs.Behind.{corner-by-both, corner-by-above, corner-by-left, corner-by-base}
+use Rattle.block_spec.specs.Placed.{Standing}
 use Rattle.reorder.specs.Rect.{InAny}
 use Rattle.job.specs.Touches.{Read, by-above, by-left, by-corner}
 use Rattle.job.specs.Rects.{runsOf}

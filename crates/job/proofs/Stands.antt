@@ -8,9 +8,10 @@ use Rattle.numbers.specs.Answer.{isDone}
 use Rattle.numbers.specs.declared.answer.Answer.the-variants.{BadMode, NoDifferences}
 use Rattle.refusals.specs.Ladder.{_else_, ladder}
 use Rattle.refusals.proofs.Ladder.{all-of, kept-append, ladder-append}
-use Rattle.edges.specs.Rules.{sizeRules, placeRules, readRules}
-use Rattle.edges.specs.Placed.{Standing}
-use Rattle.edges.proofs.Placed as edges
+use Rattle.block_spec.specs.Rules.{sizeRules, placeRules}
+use Rattle.neighbours.specs.Read.{readRules}
+use Rattle.block_spec.specs.Placed.{Standing}
+use Rattle.block_spec.proofs.Placed as edges
 use Rattle.job.specs.Row.{Row, specOf}
 use Rattle.job.specs.Mode.{isMode}
 use Rattle.job.specs.Rules.{hasDifferences, rowRules, rowAnswer, stands, jobAnswer}

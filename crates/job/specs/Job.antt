@@ -5,7 +5,7 @@ use Rattle.numbers.specs.Flag.{flagsOf}
 use Rattle.numbers.specs.declared.mode.Mode.{Mode}
 use Rattle.numbers.specs.declared.mode.Mode.the-variants.{Paeth}
 use Rattle.numbers.specs.declared.word.Word.the-variants.{FlagWord, MaxWidth, MaxHeight}
-use Rattle.edges.specs.declared.spec.IntraRefSpec.{IntraRefSpec}
+use Rattle.block_spec.specs.declared.spec.IntraRefSpec.{IntraRefSpec}
 use Rattle.job.specs.Row.{Row, word, specOf, startOf}
 use Rattle.job.specs.Mode.{rowMode}
 use Rattle.job.specs.Rules.{stands, rowAnswer}

@@ -8,7 +8,7 @@ use Rattle.numbers.specs.Word.{wordPlace}
 use Rattle.numbers.specs.declared.flag.Flag.the-variants.{Above, Left}
 use Rattle.numbers.specs.declared.word.Word.{Word}
 use Rattle.numbers.specs.declared.word.Word.the-variants.{X, Y, Side, Bits, FlagWord, TopRight, BottomLeft, AvailableAbove, AvailableLeft, Base, Differences}
-use Rattle.edges.specs.declared.spec.IntraRefSpec.{IntraRefSpec}
+use Rattle.block_spec.specs.declared.spec.IntraRefSpec.{IntraRefSpec}
 
 abbrev pub Row : Type 0
 Row = List ℕ

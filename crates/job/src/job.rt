@@ -1,5 +1,5 @@
 // A job, read from its row: "A job in the program carries its mode as one value" (document 01, Ranges and numbers that name things).
-use edges::spec::IntraRefSpec;
+use block_spec::spec::IntraRefSpec;
 use numbers::answer::Answer;
 use numbers::flag::Flags;
 use numbers::mode::Mode;

@@ -1,5 +1,5 @@
 // A job's row of sixteen words (document 01, Ranges and numbers that name things).
-use edges::spec::IntraRefSpec;
+use block_spec::spec::IntraRefSpec;
 use numbers::flag::Flag;
 use numbers::word::Word;
 ghost use mathlib.Core.Path.{_≡_};

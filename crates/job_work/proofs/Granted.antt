@@ -14,9 +14,10 @@ use Rattle.lists.specs.Fill.{tab}
 use Rattle.lists.proofs.Fill.{length-tab, filled-all, filled-at}
 use Rattle.direct_calls.specs.Given.{Given}
 use Rattle.edge_line.specs.Edge.{entryOf}
-use Rattle.edges.specs.Behind.{aboveBehind, leftBehind, cornerBehind}
-use Rattle.edges.specs.Refs.{valueOf, aboveOf, leftOf, cornerOf}
-use Rattle.edges.proofs.Placed.{small}
+use Rattle.block_spec.specs.Behind.{aboveBehind, leftBehind, cornerBehind}
+use Rattle.neighbours.specs.Values.{valueOf, aboveOf, leftOf}
+use Rattle.edges.specs.Refs.{cornerOf}
+use Rattle.block_spec.proofs.Placed.{small}
 use Rattle.edges.proofs.Given.{built-given}
 use Rattle.job.specs.declared.job.Job.{Job}
 use Rattle.job_work.specs.Written.{aboveEdge, leftEdge, cornerEntry}

@@ -11,8 +11,8 @@ use Rattle.numbers.specs.Answer.{isDone}
 use Rattle.numbers.specs.declared.answer.Answer.{Answer}
 use Rattle.refusals.specs.Promise.{lent, Promise}
 use Rattle.refusals.proofs.Promise.{refused}
-use Rattle.edges.specs.Rules.{isPlane}
-use Rattle.edges.proofs.Placed.{placed}
+use Rattle.block_spec.specs.Rules.{isPlane}
+use Rattle.block_spec.proofs.Placed.{placed}
 use Rattle.job.specs.Row.{Row, specOf}
 use Rattle.job.specs.Rules.{hasDifferences, rowAnswer, stands, jobAnswer}
 use Rattle.job.specs.Job.{jobOf, readRow}

@@ -10,8 +10,8 @@ use Rattle.numbers.specs.Mode.{DeltaInRange}
 use Rattle.numbers.specs.declared.answer.Answer.{Answer}
 use Rattle.refusals.specs.Ladder.{ladder}
 use Rattle.refusals.specs.Promise.{lent}
-use Rattle.edges.specs.Rules.{allRead, readRules}
-use Rattle.edges.specs.Placed.{Placed}
+use Rattle.neighbours.specs.Read.{allRead, readRules}
+use Rattle.block_spec.specs.Placed.{Placed}
 use Rattle.job.specs.Touches.{blockAt}
 use Rattle.job.specs.declared.job.Job.{Job}
 use Rattle.job_work.specs.Written.{writtenAt}

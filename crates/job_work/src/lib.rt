@@ -1,9 +1,9 @@
 // One job over its plane: the edges are built, the block predicted, and the differences added into the plane.
-use edges::answer;
-use edges::fill;
-use edges::reads;
+use block_spec::answer;
 use job::job::FoundJob;
 use job::job::Job;
+use neighbours::fill;
+use neighbours::reads;
 use numbers::answer::Answer;
 ghost use mathlib.Core.Path.{_≡_};
 ghost use mathlib.Core.Bool.{true};
@@ -13,7 +13,7 @@ ghost use lib.ListN.{length};
 ghost use Rattle.numbers.specs.Depth.{most};
 ghost use Rattle.lists.specs.Block.{block};
 ghost use Rattle.refusals.specs.Promise.{Promise};
-ghost use Rattle.edges.specs.Rules.{isPlane};
+ghost use Rattle.block_spec.specs.Rules.{isPlane};
 ghost use Rattle.job.specs.Touches.{blockAt};
 ghost use Rattle.job_work.specs.Written.{predictedAt, writtenAt};
 ghost use Rattle.paint.specs.Painted.{painted};

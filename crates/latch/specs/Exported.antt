@@ -10,7 +10,7 @@ use Rattle.numbers.specs.Answer.{answerNumber}
 use Rattle.lists.specs.Block.{block}
 use Rattle.refusals.specs.Promise.{lent, Promise}
 use Rattle.edges.specs.Refs.{Lists, answerFor, refsOf}
-use Rattle.edges.specs.declared.spec.IntraRefSpec.{IntraRefSpec}
+use Rattle.block_spec.specs.declared.spec.IntraRefSpec.{IntraRefSpec}
 use Rattle.direct_calls.specs.Direct.{Predictor, directAnswer}
 use Rattle.colour_sums.specs.declared.window.Window.{Window}
 use Rattle.colour_params.specs.Rules.{deriveAnswer}

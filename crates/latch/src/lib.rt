@@ -3,7 +3,7 @@
 pub mod colour;
 pub mod jobs;
 
-use edges::spec::IntraRefSpec;
+use block_spec::spec::IntraRefSpec;
 ghost use Rattle.paeth.specs.Paeth.{paethAt};
 ghost use Rattle.smooth.specs.Smooth.{smoothAt, smoothVAt, smoothHAt};
 ghost use Rattle.directional.specs.Words.{isNamed, directed};

@@ -4,7 +4,7 @@ use mathlib.Core.Bool.{Bool, true}
 use mathlib.Core.List.{List}
 use Prim.Native.Nat.{ℕ, _≤_}
 use lib.IntN.{ℤ}
-use Rattle.edges.specs.declared.spec.IntraRefSpec.{IntraRefSpec}
+use Rattle.block_spec.specs.declared.spec.IntraRefSpec.{IntraRefSpec}
 use Rattle.reorder.specs.Rect.{Rect}
 use Rattle.job.specs.Row.{Row, specOf}
 use Rattle.job.specs.Rules.{stands}

@@ -2,9 +2,9 @@
 // (clash/proofs/Meets). Both are empty if it fails 1 to 7.
 use crate::sides;
 use crate::sides::Sides;
+use block_spec::spec::IntraRefSpec;
 use clash::hits;
 use clash::rect::Rect;
-use edges::spec::IntraRefSpec;
 ghost use mathlib.Core.Path.{_≡_};
 ghost use mathlib.Core.Bool.{true};
 ghost use Rattle.job.specs.Touches.{blockAt};

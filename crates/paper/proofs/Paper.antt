@@ -5,7 +5,7 @@ use lib.Ieee.{ofBits, add, toUnsigned}
 use Rattle.lists.specs.Fill.{tab}
 use Rattle.samples.specs.Sample.{reading}
 use Rattle.edge_line.specs.Along.{along}
-use Rattle.edges.specs.Behind.{aboveBehind, leftBehind, cornerBehind}
+use Rattle.block_spec.specs.Behind.{aboveBehind, leftBehind, cornerBehind}
 use Rattle.paeth.specs.Paeth.{paeth}
 use Rattle.smooth_weights.specs.Weights.{log2, scale, weight}
 use Rattle.smooth.specs.Smooth.{blend}

@@ -7,7 +7,7 @@ use lib.Ieee.{binary32, ofBits}
 use Rattle.lists.specs.Fill.{tab}
 use Rattle.samples.specs.Sample.{reading}
 use Rattle.edges.specs.Refs.{Lists, refsOf}
-use Rattle.edges.specs.declared.spec.IntraRefSpec.{IntraRefSpec}
+use Rattle.block_spec.specs.declared.spec.IntraRefSpec.{IntraRefSpec}
 use Rattle.paeth.specs.Paeth.{paeth}
 use Rattle.smooth.specs.Smooth.{smoothVAt}
 use Rattle.directional.specs.Directional.{directionalAt}

@@ -10,7 +10,7 @@ use Rattle.numbers.specs.Flag.{isSet, noStray}
 use Rattle.numbers.specs.Answer.{isDone}
 use Rattle.numbers.specs.declared.answer.Answer.{Answer}
 use Rattle.numbers.specs.declared.answer.Answer.the-variants.{Done, NotEachOnce, PairTurned}
-use Rattle.edges.specs.Rules.{isPlane, isInside, isReach, hasNeighbours, isBase}
+use Rattle.block_spec.specs.Rules.{isPlane, isInside, isReach, hasNeighbours, isBase}
 use Rattle.reorder.specs.Test.{allBelow}
 use Rattle.reorder.specs.Entry.{count, place}
 use Rattle.reorder.specs.Rect.{clashB, crossB, meetAnyB, meetB}

@@ -11,7 +11,7 @@ use lib.ListN.{length, getD}
 use Rattle.numbers.specs.Answer.{answerNumber}
 use Rattle.numbers.specs.declared.answer.Answer.{Answer}
 use Rattle.numbers.specs.declared.answer.Answer.the-variants.{Done, NotEachOnce, PairTurned}
-use Rattle.edges.specs.Rules.{isPlane}
+use Rattle.block_spec.specs.Rules.{isPlane}
 use Rattle.refusals.proofs.Ladder.{all-kept}
 use Rattle.reorder.specs.Test.{Decides}
 use Rattle.reorder.specs.Once.{Once}

@@ -10,7 +10,7 @@ use Rattle.numbers.specs.declared.answer.Answer.{Answer}
 use Rattle.numbers.specs.declared.answer.Answer.the-variants.{Done}
 use Rattle.refusals.proofs.Ladder.{all-kept}
 use Rattle.refusals.proofs.Promise.{lent-done}
-use Rattle.edges.proofs.Placed.{plane-is}
+use Rattle.block_spec.proofs.Placed.{plane-is}
 use Rattle.reorder.specs.Test.{Decides}
 use Rattle.reorder.specs.Once.{Once}
 use Rattle.reorder.specs.Order.{Kept, Accepted}

@@ -8,7 +8,7 @@ use Rattle.numbers.specs.Limits.{mostJobs, rowWords}
 use Rattle.numbers.specs.declared.answer.Answer.{Answer}
 use Rattle.numbers.specs.declared.answer.Answer.the-variants.{BadPlane, BadPlan, NotEachOnce, PairTurned}
 use Rattle.refusals.specs.Ladder.{Rule, _else_, ladder}
-use Rattle.edges.specs.Rules.{isPlane}
+use Rattle.block_spec.specs.Rules.{isPlane}
 use Rattle.order.specs.Rules.{jobsIn, isOnce, isKept}
 
 -- "A plan has 0 to 1,024 jobs." 21: "plan not whole rows or above 1,024 jobs; order or answer list not one entry a job"

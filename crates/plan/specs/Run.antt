@@ -8,7 +8,7 @@ use lib.IntN.{ℤ}
 use lib.Ieee.{Float}
 use lib.ListN.{length, getD}
 use Rattle.numbers.specs.declared.answer.Answer.{Answer}
-use Rattle.edges.specs.Rules.{isPlane}
+use Rattle.block_spec.specs.Rules.{isPlane}
 use Rattle.refusals.specs.Promise.{lent, Promise}
 use Rattle.reorder.specs.Order.{Sheet, run, upFrom}
 use Rattle.job.specs.Row.{rowAt}

@@ -35,7 +35,7 @@ pub fn refused(
 ) -> Answer
     ensures { λ r. ⌜ r ≡ runAnswer width height samples n (now (plan .entry)) (now (order .entry)) answers ⌝ }
 {
-    if !edges::rules::is_plane(width, height, samples) {
+    if !block_spec::rules::is_plane(width, height, samples) {
         return Answer::BadPlane;
     }
     if !is_plan(plan, order.len(), answers) {

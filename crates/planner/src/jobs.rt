@@ -1,6 +1,6 @@
 // A block's job: where it stands, and its row of words.
 use crate::candidate::Candidate;
-use edges::spec::IntraRefSpec;
+use block_spec::spec::IntraRefSpec;
 use greymap::Greymap;
 
 // A block's index in the plan.

@@ -1,7 +1,7 @@
 // A case of `build_refs`: its edges and its corner are held against what the Rust gave.
 use crate::line;
 use crate::room;
-use edges::spec::IntraRefSpec;
+use block_spec::spec::IntraRefSpec;
 use series::fill;
 use series::first;
 use series::same;

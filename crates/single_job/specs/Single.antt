@@ -10,7 +10,8 @@ use Rattle.numbers.specs.declared.answer.Answer.{Answer}
 use Rattle.numbers.specs.declared.answer.Answer.the-variants.{BadPlane, BadPlan}
 use Rattle.refusals.specs.Ladder.{Rule, _else_, ladder}
 use Rattle.refusals.specs.Promise.{lent, Promise}
-use Rattle.edges.specs.Rules.{isPlane, readRules}
+use Rattle.block_spec.specs.Rules.{isPlane}
+use Rattle.neighbours.specs.Read.{readRules}
 use Rattle.job.specs.Row.{Row, specOf}
 use Rattle.job.specs.Rules.{rowRules}
 use Rattle.job_work.specs.Done.{jobDone}

@@ -51,7 +51,7 @@ pub fn run_job(
 ) -> Answer
     ensures { λ r. ⌜ SingleDone width height (now (differences .entry)) (now (row .entry)) (now (plane .entry)) (now (plane .exit)) r ⌝ }
 {
-    if !edges::rules::is_plane(width, height, plane.len()) {
+    if !block_spec::rules::is_plane(width, height, plane.len()) {
         return Answer::BadPlane;
     }
     if row.len() != Word::COUNT {

@@ -4,7 +4,7 @@ use borrow.Author.Tests.{not-true, not-false, eq-eqb, ne-eqb}
 use mathlib.Core.Path.{_≡_, sym, _∙_}
 use mathlib.Core.Bool.{true}
 use lib.ListN.{length}
-use Rattle.edges.specs.Rules.{isPlane}
+use Rattle.block_spec.specs.Rules.{isPlane}
 use Rattle.single_job.proofs.Singles.{no-plane, no-row, goes-on}
 use Rattle.job_work.proofs.Tested.{tested, not-read, read-on}
 use Rattle.single_job.proofs.run_job.Statement.{statement}

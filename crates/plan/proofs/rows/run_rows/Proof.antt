@@ -5,7 +5,7 @@ use native.Mathlib.Omega.{arith}
 use mathlib.Core.Path.{refl, sym, _∙_, ap}
 use lib.ListN.{length, length-set}
 use Rattle.lists.proofs.Block.{part-length}
-use Rattle.edges.specs.Rules.{isPlane}
+use Rattle.block_spec.specs.Rules.{isPlane}
 use Rattle.job_work.proofs.Laws.{keeps}
 use Rattle.numbers.proofs.Place.{answer-most}
 use Rattle.plan.proofs.Steps.{none-done, all-done, one-more}

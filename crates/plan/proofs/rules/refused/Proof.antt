@@ -7,13 +7,13 @@ use mathlib.Core.List.{List}
 use Prim.Native.Nat.{ℕ, _*_}
 use lib.ListN.{length, drop}
 use Rattle.refusals.specs.Ladder.{Rule, ladder}
-use Rattle.edges.specs.Rules.{isPlane}
+use Rattle.block_spec.specs.Rules.{isPlane}
 use Rattle.reorder.specs.Check.{onceB}
 use Rattle.each_once.specs.PlanOrder.{isPlanOrder}
 use Rattle.plan.specs.Rules.{isPlan, runRules, runAnswer}
 use Rattle.refusals.proofs.Ladder.{kept, broken}
 use Rattle.order.proofs.Entries.{once-is, own-is-once, own-is-kept}
-use Rattle.edges.proofs.Placed.{plane-is}
+use Rattle.block_spec.proofs.Placed.{plane-is}
 use Rattle.plan.proofs.Tests.{few, whole, walk}
 use Rattle.plan.proofs.rules.refused.Statement.{statement}
 use Rattle.plan.proofs.rules.refused.Tie as tie

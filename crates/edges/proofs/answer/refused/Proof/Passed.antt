@@ -9,9 +9,11 @@ use Rattle.numbers.specs.declared.answer.Answer.{Answer}
 use Rattle.numbers.specs.declared.answer.Answer.the-variants.{ShortList}
 use Rattle.refusals.specs.Ladder.{Rule, _else_, ladder}
 use Rattle.refusals.proofs.Ladder.{AllKept, kept, all-of, segment-kept}
-use Rattle.edges.specs.Rules.{isPlane, outputsLong, sizeRules, placeRules, readRules, refsAnswer}
-use Rattle.edges.specs.Placed.{Placed}
-use Rattle.edges.proofs.Placed.{standing, placed}
+use Rattle.block_spec.specs.Rules.{isPlane, sizeRules, placeRules}
+use Rattle.edges.specs.Rules.{outputsLong, refsAnswer}
+use Rattle.neighbours.specs.Read.{readRules}
+use Rattle.block_spec.specs.Placed.{Placed}
+use Rattle.block_spec.proofs.Placed.{standing, placed}
 use Rattle.edges.proofs.answer.refused.Tie as tie
 
 module _ (t : tie.Start) where

@@ -10,7 +10,7 @@ use Rattle.numbers.specs.declared.answer.Answer.the-variants.{BadMode, NoDiffer
 use Rattle.numbers.specs.declared.mode.FoundMode.the-variants.{Is}
 use Rattle.refusals.specs.Ladder.{Rule, _else_, ladder}
 use Rattle.refusals.proofs.Ladder.{kept, segment-kept}
-use Rattle.edges.specs.Rules.{sizeRules, placeRules}
+use Rattle.block_spec.specs.Rules.{sizeRules, placeRules}
 use Rattle.job.specs.Row.{specOf}
 use Rattle.job.specs.Mode.{isMode, rowMode}
 use Rattle.job.specs.Rules.{hasDifferences, rowAnswer}

@@ -1,0 +1,3 @@
+-- Laws of where a block stands.
+pub mod Placed
+pub mod Behind

@@ -1,0 +1,42 @@
+-- `left_of` meets its contract. Assumes nothing.
+use borrow.Author.Needs.{needs}
+use mathlib.Core.Path.{_∙_, ap}
+use Prim.Native.Nat.{_+_, _*_}
+use Rattle.neighbours.proofs.side.left_of.Statement.{statement}
+use Rattle.neighbours.proofs.side.left_of.Tie as tie
+
+cast-place : tie.Need-cast-place
+cast-place c = search needs
+
+before-requires : tie.Need-before-requires
+before-requires c κs = search needs
+
+place-requires : tie.Need-place-requires
+place-requires c κs = search needs
+
+cast-t6 : tie.Need-cast-t6
+cast-t6 c = search needs
+
+cast-t7 : tie.Need-cast-t7
+cast-t7 c = search needs
+
+cast-t8 : tie.Need-cast-t8
+cast-t8 c = search needs
+
+returns : tie.Need-returns
+returns c =
+    let p = c .before .before .before in
+    let b = p .before in
+    let t = b .before .before in
+    let s = t .args .s in
+    λ j. record {
+      there = s .«have_left»;
+      start = (p .place .ensures ∙ ap (λ r. s .y * t .args .width + r) (b .before2 .ensures)) j;
+      stride = t .args .width;
+      bs = s .b;
+      available = s .«available_left»;
+      more = s .«bottom_left»;
+    }
+
+pub left-of-spec : {M : Type 1} → statement M
+left-of-spec = tie.close (tie.spec cast-place before-requires place-requires cast-t6 cast-t7 cast-t8 returns)
