@@ -7,7 +7,7 @@ use Prim.Native.Nat.{ℕ, _+_, _-_, _*_, _≤_, _<_, min}
 use native.Mathlib.Omega.{arith}
 use borrow.Author.Tests.{lt-ltb, le-ltb}
 use Rattle.signed.proofs.Range.{and-both}
-use Rattle.edge_line.specs.Along.{along}
+use Rattle.edge_line.specs.Along.{given, along}
 use Rattle.edge_line.specs.Every.{every}
 use Rattle.edge_line.proofs.Split.{below-or}
 use Rattle.edge_line.proofs.Every.{every-at, every-all, both-ways, and-of}
@@ -36,6 +36,17 @@ module _ (B a top : ℕ) where
   pub along-past : (c : ℕ) → along B a top (min c last) ≡ along B a top c
   unfolding along
   along-past c = let k : min (min c last) last ≡ min c last = omega arith in rw k
+
+  -- no more than B of either count
+  pub along-least : (c : ℕ) → along B (min a B) (min top B) c ≡ along B a top c
+  unfolding along
+  along-least c =
+      let k : min c (B + min (min top B) B - 1) ≡ min c last = omega arith in
+      rw k (go (min c last) (below-or (min c last) B))
+    where
+      go : (i : ℕ) → (i < B) ⊎ (B ≤ i) → given B (min a B) i ≡ given B a i
+      go i (inl h) = rw (lt-ltb i B h) (omega arith)
+      go i (inr h) = rw (le-ltb i B h)
 
   -- each entry's sample is in one of the two runs
   pub along-in : 1 ≤ B → 1 ≤ a → (c : ℕ) → (along B a top c < min B a) ⊎ ((B ≤ along B a top c) × (along B a top c < B + min top B))

@@ -24,22 +24,24 @@ module _ {size start stride bs a top : ℕ} (l : Line size start stride bs a top
   entry c = sample (along bs a top c)
 
   -- xs is the edge at first
-  pub near-half : (near : ℕ) (xs : List ℤ) → near ≡ min bs a → filled bs (λ i. sample (min i (near - 1))) xs ≡ filled bs entry xs
+  pub near-half : (near : ℕ) (xs : List ℤ) → near ≡ a → filled bs (λ i. sample (min i (near - 1))) xs ≡ filled bs entry xs
   near-half near xs n =
-      let e = l .some in
+      let e = l .counts in
       filled-same bs (λ i. sample (min i (near - 1))) entry xs (λ i k. ap sample (omega (arith, along-near bs a top i k)))
 
   -- ys is the edge after it, and `row` the part that is lent then
-  pub far-half : (end : ℕ) (xs ys row : List ℤ) → end ≡ bs + min top bs → end ≤ length ys → ys ≡ filled bs entry xs
+  pub far-half : (end : ℕ) (xs ys row : List ℤ) → end ≡ bs + top → end ≤ length ys → ys ≡ filled bs entry xs
       → row ≡ tab (length (take (end - bs) (drop bs ys))) (λ i. read (runAt plane (start + bs * stride) stride i))
       → putMid bs (end - bs) ys row ≡ filled end entry xs
   far-half end xs ys row n h e u =
+      let m = l .counts in
       filled-part bs end entry _ xs ys row (omega arith) h e u
       (λ i k. ap read (far-at plane start stride bs i) ∙ ap sample (sym (along-far bs a top (bs + i) (omega arith) (omega arith))))
 
   -- the entries after them are the last one again
-  pub entry-past : (c : ℕ) → bs + min top bs ≤ c → entry (bs + min top bs - 1) ≡ entry c
+  pub entry-past : (c : ℕ) → bs + top ≤ c → entry (bs + top - 1) ≡ entry c
   entry-past c h =
       let b = l .block .0 in
-      let q : min c (bs + min top bs - 1) ≡ bs + min top bs - 1 = omega arith in
-      ap entry (sym q) ∙ ap sample (along-past bs a top c)
+      let n = l .counts in
+      let q : bs + top - 1 ≡ min c (bs + min top bs - 1) = omega arith in
+      ap entry q ∙ ap sample (along-past bs a top c)

@@ -21,14 +21,14 @@ pub far-at : (plane : List Float) (start stride bs i : ℕ) → runAt plane (sta
 far-at plane start stride bs i = ap (λ k. getD plane k nan) (omega arith)
 
 module _ {size start stride bs a top : ℕ} (l : Line size start stride bs a top) where
-  pub run-from : (k n : ℕ) → k + n ≤ bs + min top bs → Run size (start + k * stride) stride n
+  pub run-from : (k n : ℕ) → k + n ≤ bs + top → Run size (start + k * stride) stride n
   run-from k n h = record {
-    lies = λ i j. omega (arith, mul-le-mul-right {m = k + i} {n = bs + min top bs - 1} stride (omega arith));
+    lies = λ i j. omega (arith, mul-le-mul-right {m = k + i} {n = bs + top - 1} stride (omega arith));
     near = l .near;
     small = l .small;
   }
 
-  pub run-near : (n : ℕ) → n ≤ bs + min top bs → Run size start stride n
+  pub run-near : (n : ℕ) → n ≤ bs + top → Run size start stride n
   run-near n h = subst (λ (at : ℕ). Run size at stride n) (omega arith) (run-from 0 n (omega arith))
 
   -- where the far run starts fits a usize
@@ -44,25 +44,26 @@ module _ {size start stride bs a top : ℕ} (l : Line size start stride bs a top
 
   -- what holds of the sample behind each entry holds of both runs
   module _ (plane : List Float) (P : Float → Type 0) (held : (c : ℕ) → c < 2 * bs → P (runAt plane start stride (along bs a top c))) (n : ℕ) where
-    pub near-held : n ≤ min bs a → (i : ℕ) → i < n → P (runAt plane start stride i)
-    near-held h i k = rw (along-here bs a top i (omega arith)) at (held i (omega arith))
+    pub near-held : n ≤ a → (i : ℕ) → i < n → P (runAt plane start stride i)
+    near-held h i k = let n = l .counts in rw (along-here bs a top i (omega arith)) at (held i (omega arith))
 
-    pub far-held : n ≤ min top bs → (i : ℕ) → i < n → P (runAt plane (start + bs * stride) stride i)
-    far-held h i k = rw (far-at plane start stride bs i) (rw (along-far bs a top (bs + i) (omega arith) (omega arith)) at (held (bs + i) (omega arith)))
+    pub far-held : n ≤ top → (i : ℕ) → i < n → P (runAt plane (start + bs * stride) stride i)
+    far-held h i k = let n = l .counts in rw (far-at plane start stride bs i) (rw (along-far bs a top (bs + i) (omega arith) (omega arith)) at (held (bs + i) (omega arith)))
 
   -- a test of the samples behind the entries is a test of both runs
-  pub runs-test : (plane : List Float) (test : Float → Bool)
-      → every (λ c. test (runAt plane start stride (along bs a top c))) (2 * bs)
-      ≡ (every (λ i. test (runAt plane start stride i)) (min bs a) && every (λ i. test (runAt plane (start + bs * stride) stride i)) (min top bs))
-  runs-test plane test =
-      every-along bs a top (λ i. test (runAt plane start stride i)) (l .block .0) (l .some)
-      ∙ ap (λ t. every (λ i. test (runAt plane start stride i)) (min bs a) && t)
-      (every-same _ _ (min top bs) (λ i h. ap test (sym (far-at plane start stride bs i))))
+  module _ (plane : List Float) (test : Float → Bool) where
+    abbrev at : ℕ → Bool
+    at i = test (runAt plane start stride i)
 
-  -- and of one, where the two meet
-  pub whole-test : bs ≤ a → (plane : List Float) (test : Float → Bool)
-      → every (λ c. test (runAt plane start stride (along bs a top c))) (2 * bs) ≡ every (λ i. test (runAt plane start stride i)) (bs + min top bs)
-  whole-test h plane test =
-      let q : min bs a ≡ bs = omega arith in
-      every-along bs a top (λ i. test (runAt plane start stride i)) (l .block .0) (l .some)
-      ∙ rw q (every-join (λ i. test (runAt plane start stride i)) bs (min top bs))
+    along-test : every (λ c. at (along bs a top c)) (2 * bs) ≡ (every at a && every (λ i. at (bs + i)) top)
+    along-test =
+        let near : min bs a ≡ a = omega (arith, l .counts) in
+        let far : min top bs ≡ top = omega (arith, l .counts) in
+        every-along bs a top at (l .block .0) (l .counts .0) ∙ (λ j. every at (near j) && every (λ i. at (bs + i)) (far j))
+
+    pub runs-test : every (λ c. at (along bs a top c)) (2 * bs) ≡ (every at a && every (λ i. test (runAt plane (start + bs * stride) stride i)) top)
+    runs-test = along-test ∙ ap (λ t. every at a && t) (every-same _ _ top (λ i h. ap test (sym (far-at plane start stride bs i))))
+
+    -- and of one, where the two meet
+    pub whole-test : a ≡ bs → every (λ c. at (along bs a top c)) (2 * bs) ≡ every at (bs + top)
+    whole-test e = along-test ∙ ap (λ n. every at n && every (λ i. at (bs + i)) top) e ∙ every-join at bs top

@@ -1,6 +1,6 @@
 -- Runs of a plane's samples, each a stride after the one before.
 use mathlib.Core.List.{List}
-use Prim.Native.Nat.{ℕ, _+_, _-_, _*_, _≤_, _<_, min}
+use Prim.Native.Nat.{ℕ, _+_, _-_, _*_, _≤_, _<_}
 use lib.Ieee.{Float, nan}
 use lib.ListN.{getD}
 
@@ -13,10 +13,10 @@ pub record Run (size start stride n : ℕ) : Type 0 where
   pub near : stride ≤ 4096
   pub small : size ≤ 16777216
 
--- a neighbour's line of samples: what entries below bs + min top bs need of it lies in the plane
-pub record Line (size start stride bs available top : ℕ) : Type 0 where
-  pub some : 1 ≤ available
+-- a neighbour's line of samples, of which `first` of the first bs are there, and `more` after those: it lies in the plane
+pub record Line (size start stride bs first more : ℕ) : Type 0 where
   pub block : (1 ≤ bs) × (bs ≤ 64)
-  pub lies : start + (bs + min top bs - 1) * stride < size
+  pub counts : (1 ≤ first) × (first ≤ bs) × (more ≤ bs)
+  pub lies : start + (bs + more - 1) * stride < size
   pub near : stride ≤ 4096
   pub small : size ≤ 16777216

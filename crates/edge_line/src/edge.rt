@@ -1,9 +1,9 @@
-// An edge of a neighbour that is there, along a line of samples from `start` on: `near` of them, `more` from entry bs on, and repeats in between. What
-// follows them, in each edge, is one number.
+// An edge of a neighbour that is there, along a line of samples from `start` on: `first` of its first bs, repeats up to bs, and `more` from there on.
+// What follows them, in each edge, is one number.
 use crate::run;
 ghost use mathlib.Core.Path.{_≡_};
 ghost use mathlib.Core.Bool.{true};
-ghost use Prim.Native.Nat.{ℕ, _+_, _*_, _≤_, _<_, min};
+ghost use Prim.Native.Nat.{ℕ, _+_, _*_, _≤_, _<_};
 ghost use lib.IntN.{pos};
 ghost use lib.ListN.{length};
 ghost use Rattle.signed.specs.Range.{inside};
@@ -20,40 +20,38 @@ pub fn edge_in_range(
     start: usize,
     stride: usize,
     bs: usize,
-    available: usize,
-    top: usize,
+    first: usize,
+    more: usize,
     m: i32,
 ) -> bool
-    requires { ⌜ Line (length (now plane)) start stride bs available top × (inside (pos 4095) m ≡ true) ⌝ }
-    ensures { λ r. ⌜ r ≡ every (λ c. isSample m (runAt (now (plane .entry)) start stride (along bs available top c))) (2 * bs) ⌝ }
+    requires { ⌜ Line (length (now plane)) start stride bs first more × (inside (pos 4095) m ≡ true) ⌝ }
+    ensures { λ r. ⌜ r ≡ every (λ c. isSample m (runAt (now (plane .entry)) start stride (along bs first more c))) (2 * bs) ⌝ }
 {
-    let more = minmax::min(top, bs);
-    if available >= bs {
+    if first == bs {
         return run::run_in_range(plane, start, stride, bs + more, m);
     }
-    if !run::run_in_range(plane, start, stride, available, m) {
+    if !run::run_in_range(plane, start, stride, first, m) {
         return false;
     }
     run::run_in_range(plane, start + bs * stride, stride, more, m)
 }
 
-// The samples behind its first bs + min(top, bs) entries, read: how many entries that is.
+// The samples behind its first bs + more entries, read: how many entries that is.
 pub fn read_line(
     plane: &[f32],
     start: usize,
     stride: usize,
     bs: usize,
-    available: usize,
-    top: usize,
+    first: usize,
+    more: usize,
     edge: &mut [i32],
 ) -> usize
-    requires { ⌜ Line (length (now plane)) start stride bs available top × (128 ≤ length (now edge)) ⌝ }
-    requires { ⌜ ((c : ℕ) → c < 2 * bs → Readable (runAt (now plane) start stride (along bs available top c))) ⌝ }
-    ensures { λ r. ⌜ (r ≡ bs + min top bs) × (now (edge .exit) ≡ filled (bs + min top bs) (λ c. pos (reading (runAt (now (plane .entry)) start stride (along bs available top c)))) (now (edge .entry))) ⌝ }
+    requires { ⌜ Line (length (now plane)) start stride bs first more × (128 ≤ length (now edge)) ⌝ }
+    requires { ⌜ ((c : ℕ) → c < 2 * bs → Readable (runAt (now plane) start stride (along bs first more c))) ⌝ }
+    ensures { λ r. ⌜ (r ≡ bs + more) × (now (edge .exit) ≡ filled (bs + more) (λ c. pos (reading (runAt (now (plane .entry)) start stride (along bs first more c)))) (now (edge .entry))) ⌝ }
 {
-    let near = minmax::min(bs, available);
-    let end = bs + minmax::min(top, bs);
-    run::read_and_repeat(plane, start, stride, near, bs, edge);
+    let end = bs + more;
+    run::read_and_repeat(plane, start, stride, first, bs, edge);
     run::read_run(plane, start + bs * stride, stride, &mut edge[bs..end]);
     end
 }

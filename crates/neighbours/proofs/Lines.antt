@@ -10,24 +10,24 @@ use Rattle.block_spec.specs.Placed.{Placed}
 use Rattle.block_spec.proofs.Placed.{small, lies}
 
 module _ {n W : ℕ} {s : IntraRefSpec} (p : Placed n W s) where
-  pub above-line : s .«have_above» ≡ true → Line n ((s .y - 1) * W + s .x) 1 (s .b) (s .«available_above») (s .«top_right»)
+  pub above-line : s .«have_above» ≡ true → Line n ((s .y - 1) * W + s .x) 1 (s .b) (min (s .«available_above») (s .b)) (min (s .«top_right») (s .b))
   above-line t =
       let a = p .stands .above t in
       record {
-        some = a .1;
         block = p .stands .side;
+        counts = omega (arith, a .1, p .stands .side);
         lies = omega (arith, lies p (s .y - 1) (s .x + (s .b + min (s .«top_right») (s .b) - 1)) (omega (arith, p .stands .rows, p .stands .side)) (omega (arith, p .stands .side)));
         near = omega arith;
         small = small p;
       }
 
-  pub left-line : s .«have_left» ≡ true → Line n (s .y * W + (s .x - 1)) W (s .b) (s .«available_left») (s .«bottom_left»)
+  pub left-line : s .«have_left» ≡ true → Line n (s .y * W + (s .x - 1)) W (s .b) (min (s .«available_left») (s .b)) (min (s .«bottom_left») (s .b))
   left-line t =
       let a = p .stands .left t in
       let k = s .b + min (s .«bottom_left») (s .b) - 1 in
       record {
-        some = a .1;
         block = p .stands .side;
+        counts = omega (arith, a .1, p .stands .side);
         lies = omega (arith, lies p (s .y + k) (s .x - 1) (omega (arith, p .stands .side)) (omega (arith, p .stands .columns, p .stands .side)), add-mul (s .y) k W);
         near = p .sides .0;
         small = small p;

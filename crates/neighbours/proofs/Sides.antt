@@ -3,7 +3,7 @@
 use mathlib.Core.Path.{_≡_, refl, sym, _∙_, ap}
 use mathlib.Core.Bool.{Bool, true, false, cond}
 use mathlib.Core.List.{List}
-use Prim.Native.Nat.{ℕ, _+_, _-_, _*_}
+use Prim.Native.Nat.{ℕ, _+_, _-_, _*_, min}
 use native.Mathlib.Nat.{add-mul}
 use native.Mathlib.Omega.{arith}
 use lib.IntN.{ℤ, pos, _+ℤ_, _-ℤ_}
@@ -11,6 +11,7 @@ use lib.Ieee.{Float, nan}
 use lib.ListN.{getD}
 use Rattle.samples.specs.Sample.{reading}
 use Rattle.edge_line.specs.Along.{along}
+use Rattle.edge_line.proofs.Along.{along-least}
 use Rattle.block_spec.specs.declared.spec.IntraRefSpec.{IntraRefSpec}
 use Rattle.block_spec.specs.Behind.{Behind, place, number, aboveBehind, leftBehind, cornerBehind}
 use Rattle.block_spec.specs.Placed.{Placed}
@@ -29,14 +30,20 @@ either W true x y a b p q = p
 either W false x y a b p q = q
 
 module _ (W : ℕ) (s : IntraRefSpec) where
-  -- a sample along the neighbours' lines
-  pub above-place : (c : ℕ) → (s .y - 1) * W + s .x + along (s .b) (s .«available_above») (s .«top_right») c * 1
-      ≡ (s .y - 1) * W + (s .x + along (s .b) (s .«available_above») (s .«top_right») c)
-  above-place c = omega arith
+  -- how far along its line a neighbour's entry lies, as the code has its counts
+  abbrev above-far : ℕ → ℕ
+  above-far c = along (s .b) (min (s .«available_above») (s .b)) (min (s .«top_right») (s .b)) c
 
-  pub left-place : (c : ℕ) → s .y * W + (s .x - 1) + along (s .b) (s .«available_left») (s .«bottom_left») c * W
-      ≡ (s .y + along (s .b) (s .«available_left») (s .«bottom_left») c) * W + (s .x - 1)
-  left-place c = omega (arith, add-mul (s .y) (along (s .b) (s .«available_left») (s .«bottom_left») c) W)
+  abbrev left-far : ℕ → ℕ
+  left-far c = along (s .b) (min (s .«available_left») (s .b)) (min (s .«bottom_left») (s .b)) c
+
+  pub above-place : (c : ℕ) → (s .y - 1) * W + s .x + above-far c * 1 ≡ (s .y - 1) * W + (s .x + along (s .b) (s .«available_above») (s .«top_right») c)
+  above-place c = omega (arith, along-least (s .b) (s .«available_above») (s .«top_right») c)
+
+  pub left-place : (c : ℕ) → s .y * W + (s .x - 1) + left-far c * W ≡ (s .y + along (s .b) (s .«available_left») (s .«bottom_left») c) * W + (s .x - 1)
+  left-place c =
+      ap (λ k. s .y * W + (s .x - 1) + k * W) (along-least (s .b) (s .«available_left») (s .«bottom_left») c)
+      ∙ omega (arith, add-mul (s .y) (along (s .b) (s .«available_left») (s .«bottom_left») c) W)
 
   -- the corner without a neighbour above
   pub corner-missing : s .«have_above» ≡ false
@@ -50,10 +57,10 @@ module _ (W : ℕ) (s : IntraRefSpec) where
     at k = pos (reading (getD plane k nan))
 
     abbrev above-at : ℤ
-    above-at = at ((s .y - 1) * W + s .x + along (s .b) (s .«available_above») (s .«top_right») c * 1)
+    above-at = at ((s .y - 1) * W + s .x + above-far c * 1)
 
     abbrev left-at : ℤ
-    left-at = at (s .y * W + (s .x - 1) + along (s .b) (s .«available_left») (s .«bottom_left») c * W)
+    left-at = at (s .y * W + (s .x - 1) + left-far c * W)
 
     pub above-value : sideValue plane (aboveSide W s) (aboveSpare s corner) c ≡ valueOf W plane (aboveBehind s c)
     above-value = neighbours (s .«have_above») (s .«have_left») (λ a l. there a) (λ a l. there a) by-left by-base

@@ -3,7 +3,7 @@
 use mathlib.Core.Path.{_≡_}
 use mathlib.Core.Bool.{Bool, true, cond}
 use mathlib.Core.List.{List}
-use Prim.Native.Nat.{ℕ, _+_, _-_, _*_, _≤_}
+use Prim.Native.Nat.{ℕ, _+_, _-_, _*_, _≤_, min}
 use lib.IntN.{ℤ, pos, _+ℤ_, _-ℤ_}
 use lib.Ieee.{Float}
 use Rattle.samples.specs.Sample.{isSample, reading}
@@ -15,7 +15,7 @@ use Rattle.neighbours.specs.declared.side.Side.{Side}
 
 -- the sample behind entry c of one that is there
 abbrev pub sideAt : List Float → Side → ℕ → Float
-sideAt plane side c = runAt plane (side .start) (side .stride) (along (side .bs) (side .available) (side .more) c)
+sideAt plane side c = runAt plane (side .start) (side .stride) (along (side .bs) (side .first) (side .more) c)
 
 -- each sample behind its entries is a number in 0..m
 abbrev pub sideRead : ℤ → List Float → Side → Bool
@@ -28,7 +28,7 @@ sideValue plane side spare c = cond (side .there) (pos (reading (sideAt plane si
 -- its samples lie in a plane of `size` samples
 pub record SideLies (size : ℕ) (side : Side) : Type 0 where
   pub block : (1 ≤ side .bs) × (side .bs ≤ 64)
-  pub line : side .there ≡ true → Line size (side .start) (side .stride) (side .bs) (side .available) (side .more)
+  pub line : side .there ≡ true → Line size (side .start) (side .stride) (side .bs) (side .first) (side .more)
 
 -- the two neighbours of a block
 abbrev pub aboveSide : ℕ → IntraRefSpec → Side
@@ -37,8 +37,8 @@ aboveSide W s = record {
   start = (s .y - 1) * W + s .x;
   stride = 1;
   bs = s .b;
-  available = s .«available_above»;
-  more = s .«top_right»;
+  first = min (s .«available_above») (s .b);
+  more = min (s .«top_right») (s .b);
 }
 
 abbrev pub leftSide : ℕ → IntraRefSpec → Side
@@ -47,8 +47,8 @@ leftSide W s = record {
   start = s .y * W + (s .x - 1);
   stride = W;
   bs = s .b;
-  available = s .«available_left»;
-  more = s .«bottom_left»;
+  first = min (s .«available_left») (s .b);
+  more = min (s .«bottom_left») (s .b);
 }
 
 -- what stands for all entries of one that is missing, with the corner's number at hand: the first sample of the other one is the corner's then

@@ -45,7 +45,7 @@ fn fill_side(plane: &[f32], side: Side, spare: i32, edge: &mut [i32])
             side.start,
             side.stride,
             side.bs,
-            side.available,
+            side.first,
             side.more,
             edge,
         );

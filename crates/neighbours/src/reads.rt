@@ -39,7 +39,7 @@ fn side_read(plane: &[f32], side: Side, m: i32) -> bool
         side.start,
         side.stride,
         side.bs,
-        side.available,
+        side.first,
         side.more,
         m,
     )

@@ -3,7 +3,7 @@
 use block_spec::spec::IntraRefSpec;
 ghost use mathlib.Core.Path.{_≡_};
 ghost use mathlib.Core.Bool.{cond};
-ghost use Prim.Native.Nat.{_+_, _-_, _*_, _≤_};
+ghost use Prim.Native.Nat.{_+_, _-_, _*_, _≤_, min};
 ghost use Rattle.block_spec.specs.Behind.{cornerBehind};
 ghost use Rattle.neighbours.specs.Spot.{spotOf};
 ghost use Rattle.neighbours.specs.Side.{aboveSide, leftSide, aboveSpare, leftSpare};
@@ -14,13 +14,13 @@ pub enum Spot {
     Number(i32),
 }
 
-// A neighbour of a block of bs by bs, above it or at its left. `more` counts top-right or bottom-left.
+// A neighbour of a block of bs by bs, above it or at its left: how many of its first bs samples are there, and how many more after those, at most bs.
 pub struct Side {
     pub there: bool,
     pub start: usize,
     pub stride: usize,
     pub bs: usize,
-    pub available: usize,
+    pub first: usize,
     pub more: usize,
 }
 
@@ -29,6 +29,13 @@ fn before(i: u16) -> usize
     ensures { λ r. ⌜ r ≡ i - 1 ⌝ }
 {
     if i == 0 { 0 } else { i as usize - 1 }
+}
+
+// The smaller of two words.
+fn least(a: u16, b: u16) -> usize
+    ensures { λ r. ⌜ r ≡ min a b ⌝ }
+{
+    minmax::min(a as usize, b as usize)
 }
 
 // Where a sample stands in the list of a plane whose rows have `width` samples.
@@ -60,8 +67,8 @@ pub fn above_of(width: usize, s: IntraRefSpec) -> Side
         start: place(width, before(s.y), s.x as usize),
         stride: 1,
         bs: s.b as usize,
-        available: s.available_above as usize,
-        more: s.top_right as usize,
+        first: least(s.available_above, s.b),
+        more: least(s.top_right, s.b),
     }
 }
 
@@ -75,8 +82,8 @@ pub fn left_of(width: usize, s: IntraRefSpec) -> Side
         start: place(width, s.y as usize, before(s.x)),
         stride: width,
         bs: s.b as usize,
-        available: s.available_left as usize,
-        more: s.bottom_left as usize,
+        first: least(s.available_left, s.b),
+        more: least(s.bottom_left, s.b),
     }
 }
 

@@ -1,8 +1,8 @@
 -- `read_line` meets its contract: the near run with its repeats, and the far run. Assumes nothing.
 use native.Mathlib.Omega.{arith}
-use mathlib.Core.Path.{_≡_, _∙_, ap}
+use mathlib.Core.Path.{_≡_, refl, _∙_, ap}
 use mathlib.Core.List.{List}
-use Prim.Native.Nat.{ℕ, _+_, _-_, _≤_, min}
+use Prim.Native.Nat.{ℕ, _+_, _-_, _≤_}
 use lib.IntN.{ℤ, pos}
 use lib.Ieee.{Float}
 use lib.ListN.{length, take, drop}
@@ -11,8 +11,6 @@ use borrow.Rule.Slice.PartMut.{mid-len}
 use Rattle.lists.specs.Fill.{filled}
 use Rattle.lists.proofs.Fill.{length-filled}
 use Rattle.samples.specs.Sample.{reading, Readable}
-use Rattle.edge_line.specs.Along.{along}
-use Rattle.edge_line.specs.Run.{runAt}
 use Rattle.edge_line.proofs.Runs.{run-near, run-from, step-fits, start-fits, near-held, far-held}
 use Rattle.edge_line.proofs.Halves.{near-half, far-half}
 use Rattle.edge_line.proofs.edge.read_line.Statement.{statement}
@@ -22,25 +20,19 @@ use Rattle.edge_line.proofs.edge.read_line.Tie as tie
 part-long : (o e : ℕ) (xs ys : List ℤ) (f : ℕ → ℤ) → xs ≡ filled o f ys → o ≤ e → e ≤ length ys → length (take (e - o) (drop o xs)) ≡ e - o
 part-long o e xs ys f q l h = mid-len o e xs (omega (arith, ap (λ (zs : List ℤ). length zs) q ∙ length-filled o f ys (omega arith)))
 
-min-requires : tie.Need-min-requires
-min-requires c κs = search needs
-
-min-requires-2 : tie.Need-min-requires-2
-min-requires-2 c κs = search needs
-
 add-end : tie.Need-add-end
 add-end c = search needs
 
 read-and-repeat-requires : tie.Need-read-and-repeat-requires
 read-and-repeat-requires c κs =
-    let s = c .before .before .before .before in
+    let s = c .before .before in
     ((run-near (s .pre .0 .0) _ (omega arith), omega arith, omega arith, omega arith), near-held (s .pre .0 .0) (s .args .plane .now) Readable (s .pre .1) _ (omega arith))
 
 mul-read-run : tie.Need-mul-read-run
-mul-read-run c = step-fits (c .before .before .before .before .before .before .pre .0 .0) _ (omega arith)
+mul-read-run c = step-fits (c .before .before .before .before .pre .0 .0) _ (omega arith)
 
 add-read-run : tie.Need-add-read-run
-add-read-run c = start-fits (c .before .before .before .before .before .before .pre .0 .0) _ (omega arith)
+add-read-run c = start-fits (c .before .before .before .before .pre .0 .0) _ (omega arith)
 
 mul-read-run-2 : tie.Need-mul-read-run-2
 mul-read-run-2 c = search needs
@@ -56,8 +48,8 @@ part-read-run-end c = search needs
 
 read-run-requires : tie.Need-read-run-requires
 read-run-requires c κs =
-    let s = c .before .before .before .before .before .before .before in
-    let long = part-long (s .args .bs) (s .args .bs + c .before .before .before .before .min2 .result) _ _ _ (c .before .before .read-and-repeat .ensures) (omega arith) (omega arith) in
+    let s = c .before .before .before .before .before in
+    let long = part-long (s .args .bs) (s .args .bs + s .args .more) _ _ _ (c .before .before .read-and-repeat .ensures) (omega arith) (omega arith) in
     rw long (run-from (s .pre .0 .0) _ _ (omega arith), far-held (s .pre .0 .0) (s .args .plane .now) Readable (s .pre .1) _ (omega arith))
 
 same-length : tie.Need-same-length
@@ -67,23 +59,16 @@ returns : tie.Need-returns
 returns c =
     let two = c .before in
     let one = two .before .before .before in
-    let s = one .before .before .before .before .before in
+    let s = one .before .before .before in
     let a = s .args in
     let read : Float → ℤ = λ v. pos (reading v) in
-    let near = one .read-and-repeat .ensures ∙ near-half (s .pre .0 .0) (a .plane .now) read _ (a .edge .now) (omega arith) in
-    let end = one .before .before .min2 .result in
-    let count : a .bs + end ≡ a .bs + min (a .top) (a .bs) = omega arith in (
-      count,
-      far-half (s .pre .0 .0) (a .plane .now) read (a .bs + end) (a .edge .now) _ _ count (omega arith) near (two .read-run .ensures)
-          ∙ ap (λ (n : ℕ). filled n (λ c. read (runAt (a .plane .now) (a .start) (a .stride) (along (a .bs) (a .available) (a .top) c))) (a .edge .now)) count,
-    )
+    let near = one .read-and-repeat .ensures ∙ near-half (s .pre .0 .0) (a .plane .now) read _ (a .edge .now) refl in
+    (refl, far-half (s .pre .0 .0) (a .plane .now) read _ (a .edge .now) _ _ refl (omega (arith, s .pre .0 .0 .counts, s .pre .0 .0 .block)) near (two .read-run .ensures))
 
 pub read-line-spec : {M : Type 1} → statement M
 read-line-spec =
     tie.close
     (tie.spec
-    min-requires
-    min-requires-2
     add-end
     read-and-repeat-requires
     mul-read-run

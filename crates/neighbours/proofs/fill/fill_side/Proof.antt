@@ -4,7 +4,7 @@ use mathlib.Core.Path.{_≡_, sym, _∙_, ap}
 use mathlib.Core.Bool.{true, false, cond}
 use mathlib.Core.List.{List}
 use mathlib.Core.Logic.{⊎-elim}
-use Prim.Native.Nat.{ℕ, _+_, _-_, _*_, _≤_, _<_, min}
+use Prim.Native.Nat.{ℕ, _+_, _-_, _*_, _≤_, _<_}
 use native.Mathlib.Omega.{arith}
 use lib.IntN.{ℤ, pos}
 use lib.ListN.{length, getD}
@@ -54,15 +54,15 @@ half j =
     let there-is = w .0 .taken in
     let line = t .pre .0 .0 .line there-is in
     let end = w .6 ∙ w .2 .ensures .0 in
-    let lines = w .2 .ensures .1 ∙ filled-same (d t .bs + min (d t .more) (d t .bs)) (read t) (value t) (xs t) (λ i h. there t there-is i) in
+    let lines = w .2 .ensures .1 ∙ filled-same (d t .bs + d t .more) (read t) (value t) (xs t) (λ i h. there t there-is i) in
     record {
-      short = omega (arith, end);
+      short = omega (arith, end, line .counts);
       written = w .5 ∙ lines ∙ ap (λ n. filled n (value t) (xs t)) (sym end);
       on = λ i h k.
           ap (toZ w32) (w .7)
           ∙ back w32 (sfits-of (w .4 .given))
           ∙ (λ j. getD (lines j) (w .2 .ensures .0 j - 1) (pos 0))
-          ∙ filled-at _ (value t) (xs t) (d t .bs + min (d t .more) (d t .bs) - 1) (pos 0) (omega (arith, t .pre .0 .0 .block))
+          ∙ filled-at _ (value t) (xs t) (d t .bs + d t .more - 1) (pos 0) (omega (arith, t .pre .0 .0 .block))
           ∙ sym (there t there-is _)
           ∙ entry-past line (t .args .plane .now) (λ v. pos (reading v)) i (omega (arith, end))
           ∙ there t there-is i;
@@ -91,10 +91,18 @@ sub-last : tie.Need-sub-last
 sub-last c = search needs
 
 mul-last : tie.Need-mul-last
-mul-last c = search needs
+mul-last c =
+    let t = c .before .before .before .before .before in
+    let line = t .pre .0 .0 .line (c .before .before .before .if1 .taken) in
+    let counts = line .counts in
+    search needs
 
 slice-copy-out-last : tie.Need-slice-copy-out-last
-slice-copy-out-last c = search needs
+slice-copy-out-last c =
+    let t = c .before .before .before .before .before in
+    let line = t .pre .0 .0 .line (c .before .before .before .if1 .taken) in
+    let counts = line .counts in
+    search needs
 
 mul-repeat-from : tie.Need-mul-repeat-from
 mul-repeat-from c = search needs

@@ -18,11 +18,11 @@ place-requires c κs = let b = c .before in let t = b .before in up-fits (t .arg
 cast-t6 : tie.Need-cast-t6
 cast-t6 c = search needs
 
-cast-t7 : tie.Need-cast-t7
-cast-t7 c = search needs
+least-requires : tie.Need-least-requires
+least-requires c κs = search needs
 
-cast-t8 : tie.Need-cast-t8
-cast-t8 c = search needs
+least-requires-2 : tie.Need-least-requires-2
+least-requires-2 c κs = search needs
 
 returns : tie.Need-returns
 returns c =
@@ -35,9 +35,9 @@ returns c =
       start = (p .place .ensures ∙ ap (λ r. r * t .args .width + s .x) (b .before2 .ensures)) j;
       stride = 1;
       bs = s .b;
-      available = s .«available_above»;
-      more = s .«top_right»;
+      first = c .before .least .ensures j;
+      more = c .least2 .ensures j;
     }
 
 pub above-of-spec : {M : Type 1} → statement M
-above-of-spec = tie.close (tie.spec before-requires cast-place place-requires cast-t6 cast-t7 cast-t8 returns)
+above-of-spec = tie.close (tie.spec before-requires cast-place place-requires cast-t6 least-requires least-requires-2 returns)

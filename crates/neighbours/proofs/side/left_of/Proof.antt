@@ -17,11 +17,11 @@ place-requires c κs = search needs
 cast-t6 : tie.Need-cast-t6
 cast-t6 c = search needs
 
-cast-t7 : tie.Need-cast-t7
-cast-t7 c = search needs
+least-requires : tie.Need-least-requires
+least-requires c κs = search needs
 
-cast-t8 : tie.Need-cast-t8
-cast-t8 c = search needs
+least-requires-2 : tie.Need-least-requires-2
+least-requires-2 c κs = search needs
 
 returns : tie.Need-returns
 returns c =
@@ -34,9 +34,9 @@ returns c =
       start = (p .place .ensures ∙ ap (λ r. s .y * t .args .width + r) (b .before2 .ensures)) j;
       stride = t .args .width;
       bs = s .b;
-      available = s .«available_left»;
-      more = s .«bottom_left»;
+      first = c .before .least .ensures j;
+      more = c .least2 .ensures j;
     }
 
 pub left-of-spec : {M : Type 1} → statement M
-left-of-spec = tie.close (tie.spec cast-place before-requires place-requires cast-t6 cast-t7 cast-t8 returns)
+left-of-spec = tie.close (tie.spec cast-place before-requires place-requires cast-t6 least-requires least-requires-2 returns)
