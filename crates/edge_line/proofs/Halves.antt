@@ -2,7 +2,7 @@
 -- Assumes nothing.
 use mathlib.Core.Path.{_≡_, sym, _∙_, ap}
 use mathlib.Core.List.{List}
-use Prim.Native.Nat.{ℕ, _+_, _-_, _*_, _≤_, min}
+use Prim.Native.Nat.{ℕ, _+_, _-_, _*_, _≤_, _<_, min}
 use native.Mathlib.Omega.{arith}
 use lib.IntN.{ℤ}
 use lib.Ieee.{Float}
@@ -12,7 +12,7 @@ use Rattle.lists.specs.Fill.{tab, filled}
 use Rattle.lists.proofs.Fill.{filled-part, filled-same}
 use Rattle.edge_line.specs.Along.{along}
 use Rattle.edge_line.specs.Run.{runAt, Line}
-use Rattle.edge_line.proofs.Along.{along-near, along-far, along-past}
+use Rattle.edge_line.proofs.Along.{along-near, along-past}
 use Rattle.edge_line.proofs.Runs.{far-at}
 
 module _ {size start stride bs a top : ℕ} (l : Line size start stride bs a top) (plane : List Float) (read : Float → ℤ) where
@@ -29,14 +29,14 @@ module _ {size start stride bs a top : ℕ} (l : Line size start stride bs a top
       let e = l .counts in
       filled-same bs (λ i. sample (min i (near - 1))) entry xs (λ i k. ap sample (omega (arith, along-near bs a top i k)))
 
-  -- ys is the edge after it, and `row` the part that is lent then
-  pub far-half : (end : ℕ) (xs ys row : List ℤ) → end ≡ bs + top → end ≤ length ys → ys ≡ filled bs entry xs
-      → row ≡ tab (length (take (end - bs) (drop bs ys))) (λ i. read (runAt plane (start + bs * stride) stride i))
-      → putMid bs (end - bs) ys row ≡ filled end entry xs
-  far-half end xs ys row n h e u =
-      let m = l .counts in
-      filled-part bs end entry _ xs ys row (omega arith) h e u
-      (λ i k. ap read (far-at plane start stride bs i) ∙ ap sample (sym (along-far bs a top (bs + i) (omega arith) (omega arith))))
+  -- ys is the edge after it, and `row` the part that is lent then, from an entry on at which each entry's sample is its own
+  pub far-half : (from end : ℕ) (xs ys row : List ℤ) → from ≤ end → end ≤ length ys → ys ≡ filled from entry xs
+      → row ≡ tab (length (take (end - from) (drop from ys))) (λ i. read (runAt plane (start + from * stride) stride i))
+      → ((i : ℕ) → from ≤ i → i < end → along bs a top i ≡ i)
+      → putMid from (end - from) ys row ≡ filled end entry xs
+  far-half from end xs ys row f h e u own =
+      filled-part from end entry _ xs ys row f h e u
+      (λ i k. ap read (far-at plane start stride from i) ∙ ap sample (sym (own (from + i) (omega arith) (omega arith))))
 
   -- the entries after them are the last one again
   pub entry-past : (c : ℕ) → bs + top ≤ c → entry (bs + top - 1) ≡ entry c

@@ -47,8 +47,10 @@ module _ {size start stride bs a top : ℕ} (l : Line size start stride bs a top
     pub near-held : n ≤ a → (i : ℕ) → i < n → P (runAt plane start stride i)
     near-held h i k = let n = l .counts in rw (along-here bs a top i (omega arith)) at (held i (omega arith))
 
-    pub far-held : n ≤ top → (i : ℕ) → i < n → P (runAt plane (start + bs * stride) stride i)
-    far-held h i k = let n = l .counts in rw (far-at plane start stride bs i) (rw (along-far bs a top (bs + i) (omega arith) (omega arith)) at (held (bs + i) (omega arith)))
+    -- from an entry on at which each entry's sample is its own
+    pub far-held : (from : ℕ) → from + n ≤ bs + top → ((i : ℕ) → from ≤ i → i < bs + top → along bs a top i ≡ i)
+        → (i : ℕ) → i < n → P (runAt plane (start + from * stride) stride i)
+    far-held from h own i k = let n = l .counts in rw (far-at plane start stride from i) (rw (own (from + i) (omega arith) (omega arith)) at (held (from + i) (omega arith)))
 
   -- a test of the samples behind the entries is a test of both runs
   module _ (plane : List Float) (test : Float → Bool) where

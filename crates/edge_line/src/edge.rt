@@ -1,9 +1,9 @@
-// An edge of a neighbour that is there, along a line of samples from `start` on: `first` of its first bs, repeats up to bs, and `more` from there on.
-// What follows them, in each edge, is one number.
+// An edge of a neighbour that is there, along a line of samples from `start` on: `first` of its first bs, repeats up to bs, and samples from there up to
+// `end`. What follows them, in each edge, is one number. Two runs that meet are one.
 use crate::run;
 ghost use mathlib.Core.Path.{_≡_};
 ghost use mathlib.Core.Bool.{true};
-ghost use Prim.Native.Nat.{ℕ, _+_, _*_, _≤_, _<_};
+ghost use Prim.Native.Nat.{ℕ, _-_, _*_, _≤_, _<_};
 ghost use lib.IntN.{pos};
 ghost use lib.ListN.{length};
 ghost use Rattle.signed.specs.Range.{inside};
@@ -14,46 +14,48 @@ ghost use Rattle.edge_line.specs.Every.{every};
 ghost use Rattle.edge_line.specs.Onward.{onward};
 ghost use Rattle.edge_line.specs.Run.{runAt, Line};
 
-// Whether each sample behind the 2 bs entries is a number in 0..m. Two runs that meet are tested as one.
+// Whether each sample behind the 2 bs entries is a number in 0..m.
 pub fn edge_in_range(
     plane: &[f32],
     start: usize,
     stride: usize,
     bs: usize,
     first: usize,
-    more: usize,
+    end: usize,
     m: i32,
 ) -> bool
-    requires { ⌜ Line (length (now plane)) start stride bs first more × (inside (pos 4095) m ≡ true) ⌝ }
-    ensures { λ r. ⌜ r ≡ every (λ c. isSample m (runAt (now (plane .entry)) start stride (along bs first more c))) (2 * bs) ⌝ }
+    requires { ⌜ Line (length (now plane)) start stride bs first (end - bs) × (bs ≤ end) × (inside (pos 4095) m ≡ true) ⌝ }
+    ensures { λ r. ⌜ r ≡ every (λ c. isSample m (runAt (now (plane .entry)) start stride (along bs first (end - bs) c))) (2 * bs) ⌝ }
 {
     if first == bs {
-        return run::run_in_range(plane, start, stride, bs + more, m);
+        return run::run_in_range(plane, start, stride, end, m);
     }
     if !run::run_in_range(plane, start, stride, first, m) {
         return false;
     }
-    run::run_in_range(plane, start + bs * stride, stride, more, m)
+    run::run_in_range(plane, start + bs * stride, stride, end - bs, m)
 }
 
-// The samples behind its first bs + more entries, read: how many entries that is.
+// The samples behind its entries below `end`, read.
 pub fn read_line(
     plane: &[f32],
     start: usize,
     stride: usize,
     bs: usize,
     first: usize,
-    more: usize,
+    end: usize,
     edge: &mut [i32],
-) -> usize
-    requires { ⌜ Line (length (now plane)) start stride bs first more × (128 ≤ length (now edge)) ⌝ }
-    requires { ⌜ ((c : ℕ) → c < 2 * bs → Readable (runAt (now plane) start stride (along bs first more c))) ⌝ }
-    ensures { λ r. ⌜ (r ≡ bs + more) × (now (edge .exit) ≡ filled (bs + more) (λ c. pos (reading (runAt (now (plane .entry)) start stride (along bs first more c)))) (now (edge .entry))) ⌝ }
+)
+    requires { ⌜ Line (length (now plane)) start stride bs first (end - bs) × (bs ≤ end) × (128 ≤ length (now edge)) ⌝ }
+    requires { ⌜ ((c : ℕ) → c < 2 * bs → Readable (runAt (now plane) start stride (along bs first (end - bs) c))) ⌝ }
+    ensures { λ _. ⌜ now (edge .exit) ≡ filled end (λ c. pos (reading (runAt (now (plane .entry)) start stride (along bs first (end - bs) c)))) (now (edge .entry)) ⌝ }
 {
-    let end = bs + more;
-    run::read_and_repeat(plane, start, stride, first, bs, edge);
-    run::read_run(plane, start + bs * stride, stride, &mut edge[bs..end]);
-    end
+    let mut from = 0;
+    if first < bs {
+        run::read_and_repeat(plane, start, stride, first, bs, edge);
+        from = bs;
+    }
+    run::read_run(plane, start + from * stride, stride, &mut edge[from..end]);
 }
 
 // One number from entry `from` on, up to `to`.

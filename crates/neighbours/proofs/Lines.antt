@@ -10,7 +10,7 @@ use Rattle.block_spec.specs.Placed.{Placed}
 use Rattle.block_spec.proofs.Placed.{small, lies}
 
 module _ {n W : ℕ} {s : IntraRefSpec} (p : Placed n W s) where
-  pub above-line : s .«have_above» ≡ true → Line n ((s .y - 1) * W + s .x) 1 (s .b) (min (s .«available_above») (s .b)) (min (s .«top_right») (s .b))
+  pub above-line : s .«have_above» ≡ true → Line n ((s .y - 1) * W + s .x) 1 (s .b) (min (s .«available_above») (s .b)) (s .b + min (s .«top_right») (s .b) - s .b)
   above-line t =
       let a = p .stands .above t in
       record {
@@ -21,10 +21,10 @@ module _ {n W : ℕ} {s : IntraRefSpec} (p : Placed n W s) where
         small = small p;
       }
 
-  pub left-line : s .«have_left» ≡ true → Line n (s .y * W + (s .x - 1)) W (s .b) (min (s .«available_left») (s .b)) (min (s .«bottom_left») (s .b))
+  pub left-line : s .«have_left» ≡ true → Line n (s .y * W + (s .x - 1)) W (s .b) (min (s .«available_left») (s .b)) (s .b + min (s .«bottom_left») (s .b) - s .b)
   left-line t =
       let a = p .stands .left t in
-      let k = s .b + min (s .«bottom_left») (s .b) - 1 in
+      let k = s .b + (s .b + min (s .«bottom_left») (s .b) - s .b) - 1 in
       record {
         block = p .stands .side;
         counts = omega (arith, a .1, p .stands .side);

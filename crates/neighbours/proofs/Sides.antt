@@ -29,20 +29,24 @@ either : (W : ℕ) (t : Bool) (x y : Spot) (a b : Behind) → x ≡ spotOf W a �
 either W true x y a b p q = p
 either W false x y a b p q = q
 
+-- an entry's sample, as the code has the counts
+far-is : (B a top c : ℕ) → along B (min a B) (B + min top B - B) c ≡ along B a top c
+far-is B a top c = let more : B + min top B - B ≡ min top B = omega arith in ap (λ n. along B (min a B) n c) more ∙ along-least B a top c
+
 module _ (W : ℕ) (s : IntraRefSpec) where
   -- how far along its line a neighbour's entry lies, as the code has its counts
   abbrev above-far : ℕ → ℕ
-  above-far c = along (s .b) (min (s .«available_above») (s .b)) (min (s .«top_right») (s .b)) c
+  above-far c = along (s .b) (min (s .«available_above») (s .b)) (s .b + min (s .«top_right») (s .b) - s .b) c
 
   abbrev left-far : ℕ → ℕ
-  left-far c = along (s .b) (min (s .«available_left») (s .b)) (min (s .«bottom_left») (s .b)) c
+  left-far c = along (s .b) (min (s .«available_left») (s .b)) (s .b + min (s .«bottom_left») (s .b) - s .b) c
 
   pub above-place : (c : ℕ) → (s .y - 1) * W + s .x + above-far c * 1 ≡ (s .y - 1) * W + (s .x + along (s .b) (s .«available_above») (s .«top_right») c)
-  above-place c = omega (arith, along-least (s .b) (s .«available_above») (s .«top_right») c)
+  above-place c = omega (arith, far-is (s .b) (s .«available_above») (s .«top_right») c)
 
   pub left-place : (c : ℕ) → s .y * W + (s .x - 1) + left-far c * W ≡ (s .y + along (s .b) (s .«available_left») (s .«bottom_left») c) * W + (s .x - 1)
   left-place c =
-      ap (λ k. s .y * W + (s .x - 1) + k * W) (along-least (s .b) (s .«available_left») (s .«bottom_left») c)
+      ap (λ k. s .y * W + (s .x - 1) + k * W) (far-is (s .b) (s .«available_left») (s .«bottom_left») c)
       ∙ omega (arith, add-mul (s .y) (along (s .b) (s .«available_left») (s .«bottom_left») c) W)
 
   -- the corner without a neighbour above
@@ -94,10 +98,10 @@ module _ (W : ℕ) (s : IntraRefSpec) where
 
 module _ {n W : ℕ} {s : IntraRefSpec} (p : Placed n W s) where
   pub above-lies : SideLies n (aboveSide W s)
-  above-lies = record { block = p .stands .side; line = above-line p }
+  above-lies = record { block = p .stands .side; ends = omega arith; line = above-line p }
 
   pub left-lies : SideLies n (leftSide W s)
-  left-lies = record { block = p .stands .side; line = left-line p }
+  left-lies = record { block = p .stands .side; ends = omega arith; line = left-line p }
 
   pub corner-lies : SpotLies n (spotOf W (cornerBehind s))
   unfolding cornerBehind

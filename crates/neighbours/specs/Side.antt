@@ -15,7 +15,7 @@ use Rattle.neighbours.specs.declared.side.Side.{Side}
 
 -- the sample behind entry c of one that is there
 abbrev pub sideAt : List Float → Side → ℕ → Float
-sideAt plane side c = runAt plane (side .start) (side .stride) (along (side .bs) (side .first) (side .more) c)
+sideAt plane side c = runAt plane (side .start) (side .stride) (along (side .bs) (side .first) (side .end - side .bs) c)
 
 -- each sample behind its entries is a number in 0..m
 abbrev pub sideRead : ℤ → List Float → Side → Bool
@@ -28,7 +28,8 @@ sideValue plane side spare c = cond (side .there) (pos (reading (sideAt plane si
 -- its samples lie in a plane of `size` samples
 pub record SideLies (size : ℕ) (side : Side) : Type 0 where
   pub block : (1 ≤ side .bs) × (side .bs ≤ 64)
-  pub line : side .there ≡ true → Line size (side .start) (side .stride) (side .bs) (side .first) (side .more)
+  pub ends : (side .bs ≤ side .end) × (side .end ≤ 2 * side .bs)
+  pub line : side .there ≡ true → Line size (side .start) (side .stride) (side .bs) (side .first) (side .end - side .bs)
 
 -- the two neighbours of a block
 abbrev pub aboveSide : ℕ → IntraRefSpec → Side
@@ -38,7 +39,7 @@ aboveSide W s = record {
   stride = 1;
   bs = s .b;
   first = min (s .«available_above») (s .b);
-  more = min (s .«top_right») (s .b);
+  end = s .b + min (s .«top_right») (s .b);
 }
 
 abbrev pub leftSide : ℕ → IntraRefSpec → Side
@@ -48,7 +49,7 @@ leftSide W s = record {
   stride = W;
   bs = s .b;
   first = min (s .«available_left») (s .b);
-  more = min (s .«bottom_left») (s .b);
+  end = s .b + min (s .«bottom_left») (s .b);
 }
 
 -- what stands for all entries of one that is missing, with the corner's number at hand: the first sample of the other one is the corner's then

@@ -40,13 +40,14 @@ fn fill_side(plane: &[f32], side: Side, spare: i32, edge: &mut [i32])
     let mut end = 0;
     let mut last = spare;
     if side.there {
-        end = edge::read_line(
+        end = side.end;
+        edge::read_line(
             plane,
             side.start,
             side.stride,
             side.bs,
             side.first,
-            side.more,
+            end,
             edge,
         );
         last = edge[end - 1];

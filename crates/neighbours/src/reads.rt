@@ -40,7 +40,7 @@ fn side_read(plane: &[f32], side: Side, m: i32) -> bool
         side.stride,
         side.bs,
         side.first,
-        side.more,
+        side.end,
         m,
     )
 }

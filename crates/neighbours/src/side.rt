@@ -14,14 +14,14 @@ pub enum Spot {
     Number(i32),
 }
 
-// A neighbour of a block of bs by bs, above it or at its left: how many of its first bs samples are there, and how many more after those, at most bs.
+// A neighbour of a block of bs by bs, above it or at its left: `first` of its first bs samples are there, and those from bs on up to `end`.
 pub struct Side {
     pub there: bool,
     pub start: usize,
     pub stride: usize,
     pub bs: usize,
     pub first: usize,
-    pub more: usize,
+    pub end: usize,
 }
 
 // The number before i; 0 is before 0.
@@ -68,7 +68,7 @@ pub fn above_of(width: usize, s: IntraRefSpec) -> Side
         stride: 1,
         bs: s.b as usize,
         first: least(s.available_above, s.b),
-        more: least(s.top_right, s.b),
+        end: s.b as usize + least(s.top_right, s.b),
     }
 }
 
@@ -83,7 +83,7 @@ pub fn left_of(width: usize, s: IntraRefSpec) -> Side
         stride: width,
         bs: s.b as usize,
         first: least(s.available_left, s.b),
-        more: least(s.bottom_left, s.b),
+        end: s.b as usize + least(s.bottom_left, s.b),
     }
 }
 

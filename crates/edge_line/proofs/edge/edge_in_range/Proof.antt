@@ -1,5 +1,5 @@
 -- `edge_in_range` meets its contract: what stands behind the entries is the two runs, or one where they meet. Assumes nothing.
-use Prim.Native.Nat.{ℕ, _+_, _*_}
+use Prim.Native.Nat.{ℕ, _+_, _-_, _*_}
 use native.Mathlib.Omega.{arith}
 use mathlib.Core.Path.{_≡_, refl, sym, _∙_, ap}
 use mathlib.Core.Bool.{Bool, true, false, _&&_}
@@ -16,13 +16,10 @@ use Rattle.edge_line.proofs.Runs.{run-near, run-from, step-fits, start-
 use Rattle.edge_line.proofs.edge.edge_in_range.Statement.{statement}
 use Rattle.edge_line.proofs.edge.edge_in_range.Tie as tie
 
-add-run-in-range : tie.Need-add-run-in-range
-add-run-in-range c = search needs
-
 run-in-range-requires : tie.Need-run-in-range-requires
 run-in-range-requires c κs =
     let s = c .before .before in
-    rw (toZ-ofZ (s .fits .m)) (run-near (s .pre .0) _ (omega arith), s .pre .1)
+    rw (toZ-ofZ (s .fits .m)) (run-near (s .pre .0) _ (omega arith), s .pre .2)
 
 module _ (s : tie.Start) where
   -- the test of a run, and what a call tells of it
@@ -33,24 +30,25 @@ module _ (s : tie.Start) where
   told from n k t e q = sym (e ∙ rw (toZ-ofZ (s .fits .m), q))
 
   abbrev far : Bool
-  far = run (s .args .start + s .args .bs * s .args .stride) (s .args .more)
+  far = run (s .args .start + s .args .bs * s .args .stride) (s .args .end - s .args .bs)
 
   -- the test of the edge, by what the near run's is
   behind : (t : Bool) → run (s .args .start) (s .args .first) ≡ t
       → (t && far)
-      ≡ every (λ i. isSample (s .args .m) (runAt (s .args .plane .now) (s .args .start) (s .args .stride) (along (s .args .bs) (s .args .first) (s .args .more) i))) (2 * s .args .bs)
+      ≡ every (λ i. isSample (s .args .m) (runAt (s .args .plane .now) (s .args .start) (s .args .stride) (along (s .args .bs) (s .args .first) (s .args .end - s .args .bs) i))) (2 * s .args .bs)
   behind t e = sym (runs-test (s .pre .0) (s .args .plane .now) (isSample (s .args .m)) ∙ ap (λ r. r && far) e)
 
 returns : tie.Need-returns
 returns c =
     let s = c .before .before .before in
-    sym (told s _ _ (s .args .bs + s .args .more) _ (c .run-in-range .ensures) refl)
+    let all : s .args .end ≡ s .args .bs + (s .args .end - s .args .bs) = omega (arith, s .pre .1) in
+    sym (told s _ _ (s .args .bs + (s .args .end - s .args .bs)) _ (c .run-in-range .ensures) all)
     ∙ sym (whole-test (s .pre .0) (s .args .plane .now) (isSample (s .args .m)) (c .before .if1 .taken))
 
 run-in-range-requires-2 : tie.Need-run-in-range-requires-2
 run-in-range-requires-2 c κs =
     let s = c .before .before in
-    rw (toZ-ofZ (s .fits .m)) (run-near (s .pre .0) _ (omega arith), s .pre .1)
+    rw (toZ-ofZ (s .fits .m)) (run-near (s .pre .0) _ (omega arith), s .pre .2)
 
 -- the near run, which ends before bs
 near-told : (k : tie.After-run-in-range2) → run (k .before .before .before) (k .before .before .before .args .start) (k .before .before .before .args .first) ≡ k .run-in-range2 .result
@@ -64,13 +62,16 @@ returns-2 c =
 mul-run-in-range : tie.Need-mul-run-in-range
 mul-run-in-range c = step-fits (c .before .before .before .before .pre .0) _ (omega arith)
 
-add-run-in-range-2 : tie.Need-add-run-in-range-2
-add-run-in-range-2 c = start-fits (c .before .before .before .before .pre .0) _ (omega arith)
+add-run-in-range : tie.Need-add-run-in-range
+add-run-in-range c = start-fits (c .before .before .before .before .pre .0) _ (omega arith)
+
+sub-run-in-range : tie.Need-sub-run-in-range
+sub-run-in-range c = search needs
 
 run-in-range-requires-3 : tie.Need-run-in-range-requires-3
 run-in-range-requires-3 c κs =
     let s = c .before .before .before .before in
-    rw (toZ-ofZ (s .fits .m)) (run-from (s .pre .0) _ _ (omega arith), s .pre .1)
+    rw (toZ-ofZ (s .fits .m)) (run-from (s .pre .0) _ _ (omega arith), s .pre .2)
 
 returns-3 : tie.Need-returns-3
 returns-3 c =
@@ -83,12 +84,12 @@ pub edge-in-range-spec : {M : Type 1} → statement M
 edge-in-range-spec =
     tie.close
     (tie.spec
-    add-run-in-range
     run-in-range-requires
     returns
     run-in-range-requires-2
     returns-2
     mul-run-in-range
-    add-run-in-range-2
+    add-run-in-range
+    sub-run-in-range
     run-in-range-requires-3
     returns-3)

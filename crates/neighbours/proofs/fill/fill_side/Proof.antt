@@ -53,18 +53,20 @@ half j =
     (λ w.
     let there-is = w .0 .taken in
     let line = t .pre .0 .0 .line there-is in
-    let end = w .6 ∙ w .2 .ensures .0 in
-    let lines = w .2 .ensures .1 ∙ filled-same (d t .bs + d t .more) (read t) (value t) (xs t) (λ i h. there t there-is i) in
+    let end = w .6 in
+    let past : d t .end - 1 ≡ d t .bs + (d t .end - d t .bs) - 1 = omega (arith, t .pre .0 .0 .ends) in
+    let lines = w .2 .ensures ∙ filled-same (d t .end) (read t) (value t) (xs t) (λ i h. there t there-is i) in
     record {
-      short = omega (arith, end, line .counts);
+      short = omega (arith, end, t .pre .0 .0 .ends);
       written = w .5 ∙ lines ∙ ap (λ n. filled n (value t) (xs t)) (sym end);
       on = λ i h k.
           ap (toZ w32) (w .7)
           ∙ back w32 (sfits-of (w .4 .given))
-          ∙ (λ j. getD (lines j) (w .2 .ensures .0 j - 1) (pos 0))
-          ∙ filled-at _ (value t) (xs t) (d t .bs + d t .more - 1) (pos 0) (omega (arith, t .pre .0 .0 .block))
-          ∙ sym (there t there-is _)
-          ∙ entry-past line (t .args .plane .now) (λ v. pos (reading v)) i (omega (arith, end))
+          ∙ (λ j. getD (lines j) (d t .end - 1) (pos 0))
+          ∙ filled-at (d t .end) (value t) (xs t) (d t .end - 1) (pos 0) (omega (arith, t .pre .0 .0 .block, t .pre .0 .0 .ends))
+          ∙ sym (there t there-is (d t .end - 1))
+          ∙ ap (read t) past
+          ∙ entry-past line (t .args .plane .now) (λ v. pos (reading v)) i (omega (arith, end, t .pre .0 .0 .ends))
           ∙ there t there-is i;
     })
     (λ e. record {
@@ -85,7 +87,7 @@ read-line-requires c κs =
     let k = c .before in
     let t = k .before .before in
     let there-is = k .if1 .taken in
-    ((t .pre .0 .0 .line there-is, t .pre .0 .1), t .pre .1 there-is)
+    ((t .pre .0 .0 .line there-is, t .pre .0 .0 .ends .0, t .pre .0 .1), t .pre .1 there-is)
 
 sub-last : tie.Need-sub-last
 sub-last c = search needs
@@ -93,15 +95,13 @@ sub-last c = search needs
 mul-last : tie.Need-mul-last
 mul-last c =
     let t = c .before .before .before .before .before in
-    let line = t .pre .0 .0 .line (c .before .before .before .if1 .taken) in
-    let counts = line .counts in
+    let ends = t .pre .0 .0 .ends in
     search needs
 
 slice-copy-out-last : tie.Need-slice-copy-out-last
 slice-copy-out-last c =
     let t = c .before .before .before .before .before in
-    let line = t .pre .0 .0 .line (c .before .before .before .if1 .taken) in
-    let counts = line .counts in
+    let ends = t .pre .0 .0 .ends in
     search needs
 
 mul-repeat-from : tie.Need-mul-repeat-from

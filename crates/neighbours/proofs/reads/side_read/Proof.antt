@@ -32,7 +32,7 @@ returns c =
 edge-in-range-requires : tie.Need-edge-in-range-requires
 edge-in-range-requires c κs =
     let t = c .before .before .before in
-    (t .pre .0 .line (not-false (t .args .side .there) (c .if1 .left)), m-in t)
+    (t .pre .0 .line (not-false (t .args .side .there) (c .if1 .left)), t .pre .0 .ends .0, m-in t)
 
 returns-2 : tie.Need-returns-2
 returns-2 c =

@@ -21,12 +21,18 @@ cast-t6 c = search needs
 least-requires : tie.Need-least-requires
 least-requires c κs = search needs
 
+cast-t8 : tie.Need-cast-t8
+cast-t8 c = search needs
+
 least-requires-2 : tie.Need-least-requires-2
 least-requires-2 c κs = search needs
 
+add-t10 : tie.Need-add-t10
+add-t10 c = search needs
+
 returns : tie.Need-returns
 returns c =
-    let p = c .before .before .before in
+    let p = c .before .before .before .before in
     let b = p .before .before in
     let t = b .before in
     let s = t .args .s in
@@ -35,9 +41,9 @@ returns c =
       start = (p .place .ensures ∙ ap (λ r. r * t .args .width + s .x) (b .before2 .ensures)) j;
       stride = 1;
       bs = s .b;
-      first = c .before .least .ensures j;
-      more = c .least2 .ensures j;
+      first = c .before .before .least .ensures j;
+      end = s .b + c .least2 .ensures j;
     }
 
 pub above-of-spec : {M : Type 1} → statement M
-above-of-spec = tie.close (tie.spec before-requires cast-place place-requires cast-t6 least-requires least-requires-2 returns)
+above-of-spec = tie.close (tie.spec before-requires cast-place place-requires cast-t6 least-requires cast-t8 least-requires-2 add-t10 returns)

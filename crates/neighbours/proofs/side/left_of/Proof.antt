@@ -20,12 +20,18 @@ cast-t6 c = search needs
 least-requires : tie.Need-least-requires
 least-requires c κs = search needs
 
+cast-t8 : tie.Need-cast-t8
+cast-t8 c = search needs
+
 least-requires-2 : tie.Need-least-requires-2
 least-requires-2 c κs = search needs
 
+add-t10 : tie.Need-add-t10
+add-t10 c = search needs
+
 returns : tie.Need-returns
 returns c =
-    let p = c .before .before .before in
+    let p = c .before .before .before .before in
     let b = p .before in
     let t = b .before .before in
     let s = t .args .s in
@@ -34,9 +40,9 @@ returns c =
       start = (p .place .ensures ∙ ap (λ r. s .y * t .args .width + r) (b .before2 .ensures)) j;
       stride = t .args .width;
       bs = s .b;
-      first = c .before .least .ensures j;
-      more = c .least2 .ensures j;
+      first = c .before .before .least .ensures j;
+      end = s .b + c .least2 .ensures j;
     }
 
 pub left-of-spec : {M : Type 1} → statement M
-left-of-spec = tie.close (tie.spec cast-place before-requires place-requires cast-t6 least-requires least-requires-2 returns)
+left-of-spec = tie.close (tie.spec cast-place before-requires place-requires cast-t6 least-requires cast-t8 least-requires-2 add-t10 returns)
