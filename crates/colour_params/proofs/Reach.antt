@@ -17,12 +17,13 @@ use Rattle.fixed_product.proofs.Shift.{ilog2-is, ilog2-le}
 use Rattle.elimination.specs.Elimination.{SumsIn}
 use Rattle.colour_terms.specs.Reference.{isSizes}
 use Rattle.colour_terms.proofs.Granted.{sizes-all}
-use Rattle.colour_sums.specs.Sum.{sumsOf, countOf, isReadable, NineMost}
-use Rattle.colour_sums.specs.declared.nine.Nine.{Nine}
+use Rattle.colour_samples.specs.Nine.{NineMost}
+use Rattle.colour_samples.specs.declared.nine.Nine.{Nine}
+use Rattle.colour_samples.proofs.Grown.{wider}
+use Rattle.colour_sums.specs.Sum.{sumsOf, countOf, isReadable}
 use Rattle.colour_sums.specs.declared.window.Window.{Window}
 use Rattle.colour_sums.proofs.Count.{count-most}
 use Rattle.colour_sums.proofs.Sizes.{sums-most}
-use Rattle.colour_sums.proofs.Grown.{wider}
 use Rattle.colour_params.specs.Shift.{ceilLog2, reach, shifted, shiftedSums}
 
 pub ceil-few : (n : ℕ) → n < 2 → ceilLog2 n ≡ 0

@@ -13,8 +13,9 @@ use Rattle.numbers.specs.declared.colour.ColourDirection.{ColourDirection}
 use Rattle.refusals.specs.Ladder.{Rule, _else_, ladder}
 use Rattle.colour_terms.specs.Reference.{isSizes, isHeld, isLines}
 use Rattle.colour_terms.specs.Terms.{entry}
-use Rattle.colour_sums.specs.Sum.{sumsOf, isReadable, mostSum}
-use Rattle.colour_sums.specs.declared.nine.Nine.{Nine}
+use Rattle.colour_samples.specs.Nine.{mostSum}
+use Rattle.colour_samples.specs.declared.nine.Nine.{Nine}
+use Rattle.colour_sums.specs.Sum.{sumsOf, isReadable}
 use Rattle.colour_sums.specs.declared.window.Window.{Window}
 
 -- 11, of luma's list and chroma's, with so many entries

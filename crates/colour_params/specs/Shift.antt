@@ -7,7 +7,7 @@ use Rattle.fixed_product.specs.Product.{ilog2}
 use Rattle.elimination.specs.Elimination.{regular, solved}
 use Rattle.elimination.specs.declared.Sums.{Sums}
 use Rattle.elimination.specs.declared.Params.{Params}
-use Rattle.colour_sums.specs.declared.nine.Nine.{Nine}
+use Rattle.colour_samples.specs.declared.nine.Nine.{Nine}
 
 -- ceil(log2 n)
 unfoldable pub ceilLog2 : ℕ → ℕ

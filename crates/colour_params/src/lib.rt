@@ -4,7 +4,7 @@ mod rules;
 mod shift;
 mod solve;
 
-use colour_sums::sample::DepthTerms;
+use colour_samples::sample::DepthTerms;
 use colour_sums::window;
 use colour_sums::window::Gathered;
 use colour_sums::window::Window;

@@ -1,11 +1,11 @@
 // "Sums are shifted by 22 - 2D - ceil(log2 count), so each ends at or below 2^22." (document 01, Colour parameters)
-use colour_sums::nine::Nine;
+use colour_samples::nine::Nine;
 use elimination::Sums;
 use fixed_product::product;
 ghost use mathlib.Core.Path.{_≡_};
 ghost use Prim.Native.Nat.{_^_, _≤_};
 ghost use lib.IntN.{pos};
-ghost use Rattle.colour_sums.specs.Sum.{NineMost};
+ghost use Rattle.colour_samples.specs.Nine.{NineMost};
 ghost use Rattle.colour_params.specs.Shift.{ceilLog2, shifted, shiftedSums};
 
 // ceil(log2 n).

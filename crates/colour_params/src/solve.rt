@@ -1,12 +1,12 @@
 // Refusal 14, and the parameters from sums that it lets pass (document 01, Colour parameters).
 use crate::shift;
-use colour_sums::nine::Nine;
+use colour_samples::nine::Nine;
 use elimination::Params;
 use numbers::depth::Depth;
 ghost use mathlib.Core.Path.{_≡_};
 ghost use Prim.Native.Nat.{_*_, _≤_};
 ghost use Rattle.numbers.specs.Depth.{bitsOf, most};
-ghost use Rattle.colour_sums.specs.Sum.{NineMost};
+ghost use Rattle.colour_samples.specs.Nine.{NineMost};
 ghost use Rattle.colour_params.specs.Rules.{isSmall};
 ghost use Rattle.colour_params.specs.Shift.{flat, paramsOf};
 

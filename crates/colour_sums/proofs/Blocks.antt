@@ -8,14 +8,16 @@ use lib.IntN.{ℤ, pos, natAbs}
 use lib.ListN.{length, getD}
 use Rattle.numbers.specs.declared.colour.ColourDirection.{ColourDirection}
 use Rattle.colour_terms.specs.Terms.{entry}
-use Rattle.colour_sums.specs.declared.nine.Nine.{Nine}
-use Rattle.colour_sums.specs.Sample.{directionLuma, inRange, inRangeAt, terms}
-use Rattle.colour_sums.specs.Places.{fold}
-use Rattle.colour_sums.specs.Way.{behind}
-use Rattle.colour_sums.specs.Sum.{added, oneMore}
-use Rattle.colour_sums.specs.Took.{Grid, readAt, moreAt, readable, overLines, byRows, byColumns}
-use Rattle.colour_sums.proofs.Walks.{fold-same}
-use Rattle.colour_sums.proofs.Ranges.{luma-at, behind-most}
+use Rattle.colour_samples.specs.declared.nine.Nine.{Nine}
+use Rattle.colour_samples.specs.Sample.{directionLuma, inRange, inRangeAt, terms}
+use Rattle.colour_samples.specs.Way.{behind}
+use Rattle.colour_samples.specs.Nine.{added}
+use Rattle.colour_samples.proofs.Ranges.{luma-at, behind-most}
+use Rattle.colour_lines.specs.Fold.{fold}
+use Rattle.colour_lines.specs.TookLines.{Grid, readAt, moreAt, overLines}
+use Rattle.colour_lines.proofs.Folds.{fold-same}
+use Rattle.colour_sums.specs.Sum.{oneMore}
+use Rattle.colour_sums.specs.AsLines.{readable, byRows, byColumns}
 
 -- the rows stand in the lists
 pub record Block (m r n : ℕ) (luma chroma : List ℤ) : Type 0 where

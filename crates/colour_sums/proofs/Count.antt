@@ -6,10 +6,12 @@ use native.Mathlib.Nat as N
 use native.Mathlib.Omega.{arith}
 use lib.IntN.{ℤ}
 use Rattle.numbers.specs.declared.colour.ColourDirection.{ColourDirection}
+use Rattle.colour_samples.specs.Sample.{inRangeAt}
+use Rattle.colour_samples.specs.Nine.{none}
+use Rattle.colour_lines.specs.Fold.{fold}
 use Rattle.colour_sums.specs.declared.window.Window.{Window}
-use Rattle.colour_sums.specs.Sample.{inRangeAt}
-use Rattle.colour_sums.specs.Places.{fold, walk, wide, high, rowsAbove, few, walkBlock, walkAbove, walkBelow}
-use Rattle.colour_sums.specs.Sum.{none, oneMore, sumsOf, countOf, isReadable}
+use Rattle.colour_sums.specs.Places.{walk, wide, high, rowsAbove, few, walkBlock, walkAbove, walkBelow}
+use Rattle.colour_sums.specs.Sum.{oneMore, sumsOf, countOf, isReadable}
 use Rattle.colour_sums.proofs.Walks.{rows-both}
 use Rattle.colour_sums.proofs.Runs.{walk-is}
 

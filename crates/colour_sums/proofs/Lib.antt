@@ -1,16 +1,7 @@
--- Laws of the places, the terms and the sums.
+-- Laws of the places, of a window's rows and columns as lines, and of the sums.
 pub mod Walks
 pub mod Counted
 pub mod Runs
-pub mod Digits
-pub mod Ranges
-pub mod Low
-pub mod Grown
-pub mod LineLaws
-pub mod LongLaws
-pub mod Lined
-pub mod Steps
-pub mod EachLine
 pub mod Swap
 pub mod Blocks
 pub mod Taken

@@ -4,9 +4,10 @@ use mathlib.Core.Bool.{true, false, cond}
 use mathlib.Core.Logic.{inl, inr, ⊎-elim}
 use Prim.Native.Nat.{ℕ, zero, suc, _+_, _-_, _≤_, _<_}
 use native.Mathlib.Omega.{arith}
-use Rattle.colour_sums.specs.Places.{counts, fold, row, walk, wide, high, rowsAbove, few, walkBlock, walkAbove, walkBelow}
+use Rattle.colour_lines.specs.Fold.{fold}
+use Rattle.colour_lines.proofs.Folds.{fold-none, fold-suc, fold-past, fold-shift}
+use Rattle.colour_sums.specs.Places.{counts, row, walk, wide, high, rowsAbove, few, walkBlock, walkAbove, walkBelow}
 use Rattle.colour_sums.specs.declared.window.Window.{Window}
-use Rattle.colour_sums.proofs.Walks.{fold-none, fold-suc, fold-past, fold-shift}
 use Rattle.signed.proofs.Naturals.{either}
 use Rattle.colour_sums.proofs.Counted.{no-column, no-row, in-above, past-above, in-below, past-below}
 

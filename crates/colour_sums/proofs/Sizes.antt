@@ -7,15 +7,16 @@ use lib.IntN.{ℤ}
 use Rattle.numbers.specs.Depth.{most}
 use Rattle.numbers.specs.declared.colour.ColourDirection.{ColourDirection}
 use Rattle.signed.proofs.Range.{inside-abs}
-use Rattle.colour_sums.specs.declared.nine.Nine.{Nine}
+use Rattle.colour_samples.specs.declared.nine.Nine.{Nine}
+use Rattle.colour_samples.specs.Sample.{inRangeAt}
+use Rattle.colour_samples.specs.Nine.{none, NineMost}
+use Rattle.colour_samples.proofs.Ranges.{range-parts, terms-most}
+use Rattle.colour_samples.proofs.Grown.{wider, nine-start, added-most}
 use Rattle.colour_sums.specs.declared.window.Window.{Window}
-use Rattle.colour_sums.specs.Sample.{inRangeAt}
 use Rattle.colour_sums.specs.Places.{counts, walk}
-use Rattle.colour_sums.specs.Sum.{none, oneMore, sumsOf, countOf, isReadable, NineMost}
+use Rattle.colour_sums.specs.Sum.{oneMore, sumsOf, countOf, isReadable}
 use Rattle.colour_sums.proofs.Walks.{rows-both, rows-true}
 use Rattle.colour_sums.proofs.Counted.{counted}
-use Rattle.colour_sums.proofs.Ranges.{range-parts, terms-most}
-use Rattle.colour_sums.proofs.Grown.{wider, nine-start, added-most}
 
 -- what a readable window has at each place that counts
 readable-at : (M : ℕ) (direction : ColourDirection) (luma chroma : ℕ → ℕ → ℤ) (w : Window) → isReadable M direction luma chroma w ≡ true

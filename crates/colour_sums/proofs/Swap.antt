@@ -5,12 +5,13 @@ use Prim.Native.Nat.{ℕ, zero, suc, _+_, _*_}
 use native.Mathlib.Omega.{arith}
 use lib.IntN.{ℤ}
 use Rattle.numbers.specs.declared.colour.ColourDirection.{ColourDirection}
-use Rattle.colour_sums.specs.declared.nine.Nine.{Nine}
-use Rattle.colour_sums.specs.declared.sample.Terms.{Terms}
-use Rattle.colour_sums.specs.Places.{fold}
-use Rattle.colour_sums.specs.Sum.{added, oneMore}
-use Rattle.colour_sums.specs.Took.{readable}
-use Rattle.colour_sums.proofs.Walks.{fold-past}
+use Rattle.colour_samples.specs.declared.nine.Nine.{Nine}
+use Rattle.colour_samples.specs.declared.sample.Terms.{Terms}
+use Rattle.colour_samples.specs.Nine.{added}
+use Rattle.colour_lines.specs.Fold.{fold}
+use Rattle.colour_lines.proofs.Folds.{fold-past}
+use Rattle.colour_sums.specs.Sum.{oneMore}
+use Rattle.colour_sums.specs.AsLines.{readable}
 
 module _ {A : Type 0} where
   -- a step that changes places with every step of a walk

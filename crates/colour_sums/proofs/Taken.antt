@@ -7,12 +7,14 @@ use lib.IntN.{ℤ}
 use Rattle.numbers.specs.Depth.{most}
 use Rattle.numbers.specs.declared.colour.ColourDirection.{ColourDirection}
 use Rattle.colour_terms.specs.Terms.{entry}
-use Rattle.colour_sums.specs.declared.totals.Totals.{Totals}
-use Rattle.colour_sums.specs.Way.{behind}
+use Rattle.colour_samples.specs.declared.totals.Totals.{Totals}
+use Rattle.colour_samples.specs.Way.{behind}
+use Rattle.colour_samples.specs.Took.{Took}
+use Rattle.colour_samples.proofs.Steps.{took-as}
+use Rattle.colour_lines.specs.TookLines.{TookLines}
 use Rattle.colour_sums.specs.Places.{walkBlock}
 use Rattle.colour_sums.specs.Sum.{oneMore}
-use Rattle.colour_sums.specs.Took.{Took, TookLines, readable, byRows, byColumns}
-use Rattle.colour_sums.proofs.Steps.{took-as}
+use Rattle.colour_sums.specs.AsLines.{readable, byRows, byColumns}
 use Rattle.colour_sums.proofs.Swap.{fold-swap, readable-swap, more-swap}
 use Rattle.colour_sums.proofs.Blocks.{over-rows, over-columns, read-is, more-is}
 

@@ -1,70 +1,28 @@
--- Laws of a walk, for whatever is walked along: steps that do nothing, a relation that every step keeps, a test of every place. Assumes nothing.
-use mathlib.Core.Path.{_≡_, refl, sym, _∙_, ap}
+-- Laws of a walk, for whatever is walked along: a relation that every step keeps, a test of every place. Assumes nothing.
+use mathlib.Core.Path.{_≡_, refl, sym}
 use mathlib.Core.Bool.{Bool, true, false, cond, _&&_, true≢false}
 use mathlib.Core.Logic.{⊎-elim}
-use Prim.Native.Nat.{ℕ, zero, suc, _+_, _≤_, _<_}
+use Prim.Native.Nat.{ℕ, zero, suc, _<_}
 use native.Mathlib.Nat.{eq-or-lt-of-le, le-of-suc-le-suc}
-use native.Mathlib.Numerals.{add-one}
 use native.Mathlib.Omega.{arith}
 use Rattle.signed.proofs.Range.{and-both}
-use Rattle.colour_sums.specs.Places.{counts, fold, row}
+use Rattle.colour_lines.specs.Fold.{fold}
+use Rattle.colour_lines.proofs.Folds.{fold-both}
+use Rattle.colour_sums.specs.Places.{counts, row}
 use Rattle.colour_sums.specs.declared.window.Window.{Window}
 
-module _ {A : Type 0} where
-  pub fold-none : (f : ℕ → A → A) (a : A) → fold 0 f a ≡ a
-  unfolding fold
-  fold-none f a = refl
-
-  pub fold-suc : (n : ℕ) (f : ℕ → A → A) (a : A) → fold (suc n) f a ≡ f n (fold n f a)
-  unfolding fold
-  fold-suc n f a = refl
-
-  pub fold-next : (n : ℕ) (f : ℕ → A → A) (a : A) → fold (n + 1) f a ≡ f n (fold n f a)
-  fold-next n f a = ap (λ k. fold k f a) (add-one n) ∙ fold-suc n f a
-
-  -- steps from n on that do nothing
-  pub fold-past : (f : ℕ → A → A) (a : A) (n m : ℕ) → n ≤ m → ((k : ℕ) → n ≤ k → (b : A) → f k b ≡ b) → fold m f a ≡ fold n f a
-  fold-past f a n zero h idle = let e : n ≡ 0 = omega arith in rw e
-  fold-past f a n (suc m) h idle =
-      ⊎-elim
-      (λ (e : n ≡ suc m). rw e)
-      (λ (l : n < suc m). fold-suc m f a ∙ idle m (le-of-suc-le-suc l) (fold m f a) ∙ fold-past f a n m (le-of-suc-le-suc l) idle)
-      (eq-or-lt-of-le h)
-
-  -- step 0 does nothing, and step k + 1 is f's step k
-  pub fold-shift : (g f : ℕ → A → A) (a : A) (n : ℕ) → ((b : A) → g 0 b ≡ b) → ((k : ℕ) → k < n → (b : A) → g (suc k) b ≡ f k b)
-      → fold (suc n) g a ≡ fold n f a
-  unfolding fold
-  fold-shift g f a zero none same = none a
-  fold-shift g f a (suc n) none same =
-      same n (omega arith) (fold (suc n) g a) ∙ ap (f n) (fold-shift g f a n none (λ k l. same k (omega arith)))
-
-  -- steps that do the same
-  pub fold-same : (n : ℕ) (f g : ℕ → A → A) → ((k : ℕ) → k < n → (a : A) → f k a ≡ g k a) → (a : A) → fold n f a ≡ fold n g a
-  unfolding fold
-  fold-same zero f g same a = refl
-  fold-same (suc n) f g same a = same n (omega arith) (fold n f a) ∙ ap (g n) (fold-same n f g (λ k l. same k (omega arith)) a)
-
 -- a relation that every step keeps
-module _ {A B : Type 0} (R : A → B → Type 0) where
-  pub fold-both : (n : ℕ) (f : ℕ → A → A) (g : ℕ → B → B) → ((k : ℕ) → k < n → (a : A) (b : B) → R a b → R (f k a) (g k b))
-      → (a : A) (b : B) → R a b → R (fold n f a) (fold n g b)
-  unfolding fold
-  fold-both zero f g keep a b r = r
-  fold-both (suc n) f g keep a b r =
-      keep n (omega arith) (fold n f a) (fold n g b) (fold-both n f g (λ k l. keep k (omega arith)) a b r)
+module _ {A B : Type 0} (R : A → B → Type 0) (w : Window) (f : ℕ → ℕ → A → A) (g : ℕ → ℕ → B → B) (keep : (x y : ℕ) → counts w x y ≡ true → (a : A) (b : B) → R a b → R (f x y a) (g x y b)) where
+  row-both : (y : ℕ) (a : A) (b : B) → R a b → R (row w f y a) (row w g y b)
+  unfolding row
+  row-both y a b r = fold-both R (w .«ref_width») _ _ (λ x l c d s. go x c d s (counts w x y) refl) a b r
+    where
+      go : (x : ℕ) (c : A) (d : B) → R c d → (t : Bool) → counts w x y ≡ t → R (cond t (f x y c) c) (cond t (g x y d) d)
+      go x c d s true e = keep x y e c d s
+      go x c d s false e = s
 
-  module _ (w : Window) (f : ℕ → ℕ → A → A) (g : ℕ → ℕ → B → B) (keep : (x y : ℕ) → counts w x y ≡ true → (a : A) (b : B) → R a b → R (f x y a) (g x y b)) where
-    row-both : (y : ℕ) (a : A) (b : B) → R a b → R (row w f y a) (row w g y b)
-    unfolding row
-    row-both y a b r = fold-both (w .«ref_width») _ _ (λ x l c d s. go x c d s (counts w x y) refl) a b r
-      where
-        go : (x : ℕ) (c : A) (d : B) → R c d → (t : Bool) → counts w x y ≡ t → R (cond t (f x y c) c) (cond t (g x y d) d)
-        go x c d s true e = keep x y e c d s
-        go x c d s false e = s
-
-    pub rows-both : (j : ℕ) (a : A) (b : B) → R a b → R (fold j (row w f) a) (fold j (row w g) b)
-    rows-both j a b r = fold-both j (row w f) (row w g) (λ y l c d s. row-both y c d s) a b r
+  pub rows-both : (j : ℕ) (a : A) (b : B) → R a b → R (fold j (row w f) a) (fold j (row w g) b)
+  rows-both j a b r = fold-both R j (row w f) (row w g) (λ y l c d s. row-both y c d s) a b r
 
 -- ---- a test of every place
 -- what a test of every place that counts has shown

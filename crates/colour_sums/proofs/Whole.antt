@@ -8,16 +8,18 @@ use lib.IntN.{ℤ}
 use Rattle.numbers.specs.Depth.{most}
 use Rattle.numbers.specs.declared.colour.ColourDirection.{ColourDirection}
 use Rattle.signed.proofs.Range.{pos-inside}
-use Rattle.colour_sums.specs.declared.nine.Nine.{Nine}
-use Rattle.colour_sums.specs.declared.totals.Totals.{Totals}
+use Rattle.colour_samples.specs.declared.nine.Nine.{Nine}
+use Rattle.colour_samples.specs.declared.totals.Totals.{Totals}
+use Rattle.colour_samples.specs.Way.{behind, unseen, allIn}
+use Rattle.colour_samples.specs.Took.{Took, empty}
+use Rattle.colour_samples.proofs.Steps.{took-then, took-as}
+use Rattle.colour_lines.specs.TookLines.{Grid}
 use Rattle.colour_sums.specs.declared.window.Window.{Window}
 use Rattle.colour_sums.specs.declared.window.Gathered.the-variants.{Sums, OutOfRange}
 use Rattle.colour_sums.specs.Places.{walk, wide, high, rowsAbove, few, walkBlock, walkAbove, walkBelow}
 use Rattle.colour_sums.specs.Sum.{oneMore, sumsOf, isReadable, gathered, Laid}
-use Rattle.colour_sums.specs.Way.{behind, unseen, allIn}
-use Rattle.colour_sums.specs.Took.{Took, TookAll, Grid, empty, readable, aboveRows, belowRows, belowColumns}
+use Rattle.colour_sums.specs.AsLines.{TookAll, readable, aboveRows, belowRows, belowColumns}
 use Rattle.colour_sums.proofs.Runs.{walk-is}
-use Rattle.colour_sums.proofs.Steps.{took-then, took-as}
 use Rattle.colour_sums.proofs.Blocks.{Block, rows-grid, columns-grid}
 
 -- rows of a window that refusal 11 leaves

@@ -1,15 +1,15 @@
 // "Each reference sample that counts (index 1 to dimension - 2, and inside the above or left lines)" (document 01, Colour parameters): whole rows
 // inside the above lines, then the first columns of the rows below them. Places that cannot count are not visited.
-use crate::lines::Lines;
 use crate::window::Window;
+use colour_lines::lines::Lines;
 use colour_terms::reference::Reference;
 use numbers::colour::ColourDirection;
 ghost use mathlib.Core.Path.{_≡_};
 ghost use Prim.Native.Nat.{_-_, _≤_};
 ghost use Rattle.colour_terms.specs.Reference.{mostLines};
+ghost use Rattle.colour_samples.specs.Way.{behind};
 ghost use Rattle.colour_sums.specs.Places.{rowsAbove, few};
-ghost use Rattle.colour_sums.specs.Way.{behind};
-ghost use Rattle.colour_sums.specs.Took.{aboveRows, belowRows, belowColumns};
+ghost use Rattle.colour_sums.specs.AsLines.{aboveRows, belowRows, belowColumns};
 
 // a - b, and 0 where b is more.
 pub fn monus(a: usize, b: usize) -> usize

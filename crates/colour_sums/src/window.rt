@@ -1,11 +1,11 @@
 // A reference window: how many of its places count, and the nine sums over them (document 01, Colour parameters).
-use crate::lines;
-use crate::long;
-use crate::long::LongTotals;
-use crate::nine::Nine;
 use crate::places;
-use crate::sample::DepthTerms;
-use crate::totals::Totals;
+use colour_lines::lines;
+use colour_lines::long;
+use colour_lines::long::LongTotals;
+use colour_samples::nine::Nine;
+use colour_samples::sample::DepthTerms;
+use colour_samples::totals::Totals;
 use numbers::colour::ColourDirection;
 ghost use mathlib.Core.Path.{_≡_};
 ghost use mathlib.Core.Bool.{cond};
@@ -13,9 +13,9 @@ ghost use Prim.Native.Nat.{_≤_};
 ghost use Rattle.numbers.specs.Depth.{most};
 ghost use Rattle.colour_terms.specs.Terms.{entry};
 ghost use Rattle.colour_terms.specs.Reference.{mostLines};
+ghost use Rattle.colour_samples.specs.Way.{allIn, OfDepth};
 ghost use Rattle.colour_sums.specs.Sum.{Laid, countOf, gathered};
-ghost use Rattle.colour_sums.specs.Way.{allIn, OfDepth};
-ghost use Rattle.colour_sums.specs.Took.{TookAll};
+ghost use Rattle.colour_sums.specs.AsLines.{TookAll};
 
 // The sizes of a reference window. The rows of its lists lie `Reference::STRIDE` entries apart.
 pub struct Window {

@@ -7,9 +7,9 @@ use native.Mathlib.Omega.{arith}
 use Rattle.numbers.specs.Depth.{most}
 use Rattle.numbers.specs.declared.answer.Answer.the-variants.{Done}
 use Rattle.colour_terms.specs.Terms.{entry}
-use Rattle.colour_sums.specs.Sum.{NineMost}
-use Rattle.colour_sums.specs.declared.nine.Nine.{Nine}
-use Rattle.colour_sums.proofs.Ranges.{bits-least}
+use Rattle.colour_samples.specs.Nine.{NineMost}
+use Rattle.colour_samples.specs.declared.nine.Nine.{Nine}
+use Rattle.colour_samples.proofs.Ranges.{bits-least}
 use Rattle.colour_sums.proofs.Count.{count-most}
 use Rattle.colour_sums.proofs.Sizes.{sums-most}
 use Rattle.colour_sums.proofs.Whole.{gathered-none}

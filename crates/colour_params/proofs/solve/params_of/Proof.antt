@@ -9,9 +9,9 @@ use lib.IntN.{pos}
 use mir.Syntax.{w32}
 use Rattle.signed.proofs.Bound.{back}
 use Rattle.elimination.specs.Elimination.{regular, solved, SumsIn}
-use Rattle.colour_sums.specs.Sum.{NineMost}
-use Rattle.colour_sums.proofs.Grown.{wider}
-use Rattle.colour_sums.proofs.Ranges.{most-small, bits-most}
+use Rattle.colour_samples.specs.Nine.{NineMost}
+use Rattle.colour_samples.proofs.Grown.{wider}
+use Rattle.colour_samples.proofs.Ranges.{most-small, bits-most}
 use Rattle.colour_params.specs.Shift.{reach, shiftedSums, paramsOf}
 use Rattle.colour_params.proofs.Reach.{sums-reach, shifted-sums-most}
 use Rattle.colour_params.proofs.solve.params_of.Statement.{statement}

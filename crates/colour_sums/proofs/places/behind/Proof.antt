@@ -2,7 +2,7 @@
 use borrow.Author.Needs.{needs}
 use Prim.Native.Nat.{_+_, _*_}
 use native.Mathlib.Omega.{arith}
-use Rattle.colour_sums.proofs.Ranges.{behind-most}
+use Rattle.colour_samples.proofs.Ranges.{behind-most}
 use Rattle.colour_sums.proofs.places.behind.Statement.{statement}
 use Rattle.colour_sums.proofs.places.behind.Tie as tie
 

@@ -1,7 +1,7 @@
 -- `below_columns` meets its contract. Assumes nothing.
 use borrow.Author.Needs.{needs}
 use mathlib.Core.Path.{ap}
-use Rattle.colour_sums.specs.declared.lines.Lines.{Lines}
+use Rattle.colour_lines.specs.declared.lines.Lines.{Lines}
 use Rattle.colour_sums.proofs.places.below_columns.Statement.{statement}
 use Rattle.colour_sums.proofs.places.below_columns.Tie as tie
 

@@ -3,14 +3,16 @@ use borrow.Author.Needs.{needs}
 use mathlib.Core.Path.{_≡_, sym, _∙_, ap, subst}
 use Prim.Native.Nat.{ℕ, _-_, _^_}
 use Rattle.colour_terms.specs.Terms.{entry, middle}
-use Rattle.colour_sums.specs.declared.lines.Lines.{Lines}
-use Rattle.colour_sums.specs.declared.totals.Totals.{Totals}
+use Rattle.colour_samples.specs.declared.totals.Totals.{Totals}
+use Rattle.colour_samples.specs.Nine.{NineMost}
+use Rattle.colour_samples.specs.Took.{empty}
+use Rattle.colour_samples.specs.Way.{unseen}
+use Rattle.colour_samples.proofs.Grown.{nine-start}
+use Rattle.colour_lines.specs.declared.lines.Lines.{Lines}
+use Rattle.colour_lines.specs.TookLines.{Grid, TookLines, asTotals}
+use Rattle.colour_lines.proofs.LongLaws.{nine-none}
 use Rattle.colour_sums.specs.Places.{wide, high, rowsAbove, few}
-use Rattle.colour_sums.specs.Sum.{NineMost}
-use Rattle.colour_sums.specs.Took.{Grid, TookLines, TookAll, asTotals, empty}
-use Rattle.colour_sums.specs.Way.{unseen}
-use Rattle.colour_sums.proofs.LongLaws.{nine-none}
-use Rattle.colour_sums.proofs.Grown.{nine-start}
+use Rattle.colour_sums.specs.AsLines.{TookAll}
 use Rattle.colour_sums.proofs.Taken.{took-rows, took-columns}
 use Rattle.colour_sums.proofs.Whole.{above-held, below-held, columns-held, TookBlock, took-all}
 use Rattle.colour_sums.proofs.window.gather_long.Statement.{statement}

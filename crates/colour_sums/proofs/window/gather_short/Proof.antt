@@ -3,12 +3,13 @@ use borrow.Author.Needs.{needs}
 use mathlib.Core.Path.{sym, subst}
 use Prim.Native.Nat.{ℕ, _-_, _^_}
 use Rattle.colour_terms.specs.Terms.{entry}
-use Rattle.colour_sums.specs.declared.lines.Lines.{Lines}
-use Rattle.colour_sums.specs.declared.totals.Totals.{Totals}
+use Rattle.colour_samples.specs.declared.totals.Totals.{Totals}
+use Rattle.colour_samples.specs.Nine.{NineMost}
+use Rattle.colour_samples.specs.Took.{empty}
+use Rattle.colour_samples.proofs.Grown.{nine-start}
+use Rattle.colour_lines.specs.declared.lines.Lines.{Lines}
+use Rattle.colour_lines.specs.TookLines.{Grid, TookLines}
 use Rattle.colour_sums.specs.Places.{wide, high, rowsAbove, few}
-use Rattle.colour_sums.specs.Sum.{NineMost}
-use Rattle.colour_sums.specs.Took.{Grid, TookLines, empty}
-use Rattle.colour_sums.proofs.Grown.{nine-start}
 use Rattle.colour_sums.proofs.Taken.{took-rows}
 use Rattle.colour_sums.proofs.Whole.{above-held, below-held, TookBlock, took-all}
 use Rattle.colour_sums.proofs.window.gather_short.Statement.{statement}
