@@ -3,8 +3,8 @@ use mathlib.Core.Bool.{true, _&&_}
 use mathlib.Core.Path.{_≡_}
 use Prim.Native.Nat.{ℕ, _*_, _/_, _≤_, _<_}
 use native.Mathlib.Omega.{arith}
-use Rattle.numbers.specs.Dir.{isDir, isDelta}
-use Rattle.numbers.specs.Flag.{noStray}
+use Rattle.row_words.specs.Dir.{isDir, isDelta}
+use Rattle.row_words.specs.Flag.{noStray}
 use Rattle.numbers.specs.Size.{isSize}
 use Rattle.numbers.proofs.Agree.{size-all}
 use Rattle.signed.proofs.Range.{and-both}

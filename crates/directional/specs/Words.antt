@@ -4,12 +4,12 @@ use mathlib.Core.Bool.{Bool, cond, _&&_}
 use lib.Dec.{leb}
 use lib.IntN.{ℤ, pos, natAbs}
 use Rattle.numbers.specs.Depth.{most}
-use Rattle.numbers.specs.Dir.{dirOf, angleOf, deltaOf, isDir, isDelta}
-use Rattle.numbers.specs.Flag.{noStray, flagsOf}
-use Rattle.numbers.specs.declared.dir.Dir.{Dir}
-use Rattle.numbers.specs.declared.dir.FoundDir.{FoundDir}
-use Rattle.numbers.specs.declared.dir.FoundDir.the-variants.{Is, NoDir}
-use Rattle.numbers.specs.declared.flag.Flags.{Flags}
+use Rattle.row_words.specs.Dir.{dirOf, angleOf, deltaOf, isDir, isDelta}
+use Rattle.row_words.specs.Flag.{noStray, flagsOf}
+use Rattle.row_words.specs.declared.dir.Dir.{Dir}
+use Rattle.row_words.specs.declared.dir.FoundDir.{FoundDir}
+use Rattle.row_words.specs.declared.dir.FoundDir.the-variants.{Is, NoDir}
+use Rattle.row_words.specs.declared.flag.Flags.{Flags}
 use Rattle.direct_calls.specs.Direct.{Predictor}
 use Rattle.setting.specs.declared.Setting.{Setting}
 use Rattle.directional.specs.Directional.{directionalAt}

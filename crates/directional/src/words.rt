@@ -1,8 +1,8 @@
 // A direction in a job's words (document 01, Ranges and numbers that name things).
 use crate::turned;
-use numbers::dir::Dir;
-use numbers::dir::FoundDir;
-use numbers::flag::Flags;
+use row_words::dir::Dir;
+use row_words::dir::FoundDir;
+use row_words::flag::Flags;
 ghost use mathlib.Core.Path.{_≡_};
 ghost use mathlib.Core.Bool.{true};
 ghost use lib.ListN.{length};

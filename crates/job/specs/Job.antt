@@ -1,16 +1,16 @@
 -- A job, read from its row: "A job in the program carries its mode as one value" (document 01, Ranges and numbers that name things).
 use mathlib.Core.Bool.{cond}
 use Prim.Native.Nat.{ℕ}
-use Rattle.numbers.specs.Flag.{flagsOf}
-use Rattle.numbers.specs.declared.mode.Mode.{Mode}
-use Rattle.numbers.specs.declared.mode.Mode.the-variants.{Paeth}
-use Rattle.numbers.specs.declared.word.Word.the-variants.{FlagWord, MaxWidth, MaxHeight}
+use Rattle.row_words.specs.Flag.{flagsOf}
+use Rattle.row_words.specs.declared.mode.Mode.{Mode}
+use Rattle.row_words.specs.declared.mode.Mode.the-variants.{Paeth}
+use Rattle.row_words.specs.declared.word.Word.the-variants.{FlagWord, MaxWidth, MaxHeight}
 use Rattle.block_spec.specs.declared.spec.IntraRefSpec.{IntraRefSpec}
 use Rattle.job.specs.Row.{Row, word, specOf, startOf}
 use Rattle.job.specs.Mode.{rowMode}
 use Rattle.job.specs.Rules.{stands, rowAnswer}
-use Rattle.numbers.specs.declared.mode.FoundMode.{FoundMode}
-use Rattle.numbers.specs.declared.mode.FoundMode.the-variants as found
+use Rattle.row_words.specs.declared.mode.FoundMode.{FoundMode}
+use Rattle.row_words.specs.declared.mode.FoundMode.the-variants as found
 use Rattle.job.specs.declared.job.Job.{Job}
 use Rattle.job.specs.declared.job.FoundJob.{FoundJob}
 use Rattle.job.specs.declared.job.FoundJob.the-variants.{Is, Refused}

@@ -3,11 +3,11 @@ use mathlib.Core.List.{List}
 use Prim.Native.Nat.{ℕ, _*_}
 use lib.ListN.{getD, take, drop}
 use Rattle.numbers.specs.Limits.{rowWords}
-use Rattle.numbers.specs.Flag.{isSet}
-use Rattle.numbers.specs.Word.{wordPlace}
-use Rattle.numbers.specs.declared.flag.Flag.the-variants.{Above, Left}
-use Rattle.numbers.specs.declared.word.Word.{Word}
-use Rattle.numbers.specs.declared.word.Word.the-variants.{X, Y, Side, Bits, FlagWord, TopRight, BottomLeft, AvailableAbove, AvailableLeft, Base, Differences}
+use Rattle.row_words.specs.Flag.{isSet}
+use Rattle.row_words.specs.Word.{wordPlace}
+use Rattle.row_words.specs.declared.flag.Flag.the-variants.{Above, Left}
+use Rattle.row_words.specs.declared.word.Word.{Word}
+use Rattle.row_words.specs.declared.word.Word.the-variants.{X, Y, Side, Bits, FlagWord, TopRight, BottomLeft, AvailableAbove, AvailableLeft, Base, Differences}
 use Rattle.block_spec.specs.declared.spec.IntraRefSpec.{IntraRefSpec}
 
 abbrev pub Row : Type 0

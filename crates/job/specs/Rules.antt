@@ -5,7 +5,7 @@ use Prim.Native.Nat.{ℕ, _+_, _*_}
 use lib.Dec.{leb}
 use lib.Ieee.{Float}
 use Rattle.numbers.specs.Answer.{isDone}
-use Rattle.numbers.specs.declared.word.Word.the-variants.{Side}
+use Rattle.row_words.specs.declared.word.Word.the-variants.{Side}
 use Rattle.numbers.specs.declared.answer.Answer.{Answer}
 use Rattle.numbers.specs.declared.answer.Answer.the-variants.{BadMode, NoDifferences}
 use Rattle.refusals.specs.Ladder.{Rule, _else_, ladder}

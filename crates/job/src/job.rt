@@ -1,8 +1,8 @@
 // A job, read from its row: "A job in the program carries its mode as one value" (document 01, Ranges and numbers that name things).
 use block_spec::spec::IntraRefSpec;
 use numbers::answer::Answer;
-use numbers::flag::Flags;
-use numbers::mode::Mode;
+use row_words::flag::Flags;
+use row_words::mode::Mode;
 
 // `spec` has what the edges are built from; `start` is where its differences start.
 pub struct Job {

@@ -1,9 +1,9 @@
 // The mode of a row: refusal 3 (document 01, Refusal numbers, in order of checking).
 use crate::row;
-use numbers::flag::Flags;
-use numbers::mode::FoundMode;
-use numbers::mode::Mode;
-use numbers::word::Word;
+use row_words::flag::Flags;
+use row_words::mode::FoundMode;
+use row_words::mode::Mode;
+use row_words::word::Word;
 ghost use mathlib.Core.Path.{_≡_};
 ghost use lib.ListN.{length};
 ghost use Rattle.job.specs.Mode.{rowMode};

@@ -1,7 +1,7 @@
 // A job's row of sixteen words (document 01, Ranges and numbers that name things).
 use block_spec::spec::IntraRefSpec;
-use numbers::flag::Flag;
-use numbers::word::Word;
+use row_words::flag::Flag;
+use row_words::word::Word;
 ghost use mathlib.Core.Path.{_≡_};
 ghost use Prim.Native.Nat.{_≤_};
 ghost use lib.ListN.{length};

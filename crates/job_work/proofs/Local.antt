@@ -10,7 +10,7 @@ use lib.Ieee.{Float, nan}
 use lib.ListN.{getD}
 use borrow.Author.Tests.{ltb-true}
 use Rattle.numbers.specs.Depth.{most}
-use Rattle.numbers.specs.declared.word.Word.the-variants.{Side, Bits}
+use Rattle.row_words.specs.declared.word.Word.the-variants.{Side, Bits}
 use Rattle.numbers.specs.declared.answer.Answer.the-variants.{BadSample}
 use Rattle.lists.specs.Block.{sample}
 use Rattle.lists.proofs.Fill.{tab-same}

@@ -6,7 +6,7 @@ use Prim.Native.Nat.{ℕ, _+_, _*_, _≤_}
 use lib.IntN.{ℤ}
 use lib.Ieee.{Float}
 use lib.ListN.{length}
-use Rattle.numbers.specs.Mode.{DeltaInRange}
+use Rattle.row_words.specs.Mode.{DeltaInRange}
 use Rattle.numbers.specs.declared.answer.Answer.{Answer}
 use Rattle.refusals.specs.Ladder.{ladder}
 use Rattle.refusals.specs.Promise.{lent}

@@ -6,9 +6,9 @@ use Prim.Native.Nat.{ℕ, _<_}
 use native.Mathlib.Omega.{arith}
 use lib.IntN.{ℤ, pos, natAbs}
 use Rattle.numbers.specs.Depth.{most}
-use Rattle.numbers.specs.Dir.{angleOf}
-use Rattle.numbers.specs.declared.mode.Mode.{Mode}
-use Rattle.numbers.specs.declared.mode.Mode.the-variants.{Paeth, Smooth, SmoothV, SmoothH, Directional}
+use Rattle.row_words.specs.Dir.{angleOf}
+use Rattle.row_words.specs.declared.mode.Mode.{Mode}
+use Rattle.row_words.specs.declared.mode.Mode.the-variants.{Paeth, Smooth, SmoothV, SmoothH, Directional}
 use Rattle.signed.specs.Range.{inside}
 use Rattle.direct_calls.specs.Given.{Given}
 use Rattle.directional.specs.Words.{settingOf}

@@ -6,24 +6,24 @@ use Prim.Native.Nat.{ℕ, _≤_}
 use lib.IntN.{ℤ, pos, natAbs}
 use lib.Ieee.{Float}
 use Rattle.numbers.specs.Depth.{isDepth, most}
-use Rattle.numbers.specs.Flag.{noStray}
-use Rattle.numbers.specs.declared.dir.Dir.{Dir}
-use Rattle.numbers.specs.declared.mode.Mode.{Mode}
-use Rattle.numbers.specs.declared.mode.Mode.the-variants.{Directional}
-use Rattle.numbers.specs.declared.word.Word.the-variants.{ModeWord, DirectionWord, DeltaWord, FlagWord}
-use Rattle.numbers.proofs.Modes.{mode-back}
+use Rattle.row_words.specs.Flag.{noStray}
+use Rattle.row_words.specs.declared.dir.Dir.{Dir}
+use Rattle.row_words.specs.declared.mode.Mode.{Mode}
+use Rattle.row_words.specs.declared.mode.Mode.the-variants.{Directional}
+use Rattle.row_words.specs.declared.word.Word.the-variants.{ModeWord, DirectionWord, DeltaWord, FlagWord}
+use Rattle.row_words.proofs.Modes.{mode-back}
 use Rattle.lists.specs.Block.{block}
 use Rattle.direct_calls.specs.Given.{Given}
 use Rattle.direct_calls.proofs.Accepted.{depth-most}
 use Rattle.direct_calls.proofs.Given.{given-more}
 use Rattle.smooth.proofs.Ready.{no-corner}
 use Rattle.job.specs.Row.{Row, word}
-use Rattle.numbers.specs.Mode.{namedMode, DeltaInRange}
+use Rattle.row_words.specs.Mode.{namedMode, DeltaInRange}
 use Rattle.job.specs.Mode.{rowMode}
 use Rattle.job.specs.Job.{modeIn}
 use Rattle.job.specs.declared.job.Job.{Job}
-use Rattle.numbers.specs.declared.mode.FoundMode.{FoundMode}
-use Rattle.numbers.specs.declared.mode.FoundMode.the-variants.{Is, NoMode}
+use Rattle.row_words.specs.declared.mode.FoundMode.{FoundMode}
+use Rattle.row_words.specs.declared.mode.FoundMode.the-variants.{Is, NoMode}
 use Rattle.modes.specs.Predictor.{predictorBy, predictorOf}
 use Rattle.modes.specs.Ready.{Ready, predictedBlock}
 

@@ -1,6 +1,6 @@
 -- The predictor of a job's mode (document 01, Ranges and numbers that name things).
-use Rattle.numbers.specs.declared.mode.Mode.{Mode}
-use Rattle.numbers.specs.declared.mode.Mode.the-variants.{Paeth, Smooth, SmoothV, SmoothH, Directional}
+use Rattle.row_words.specs.declared.mode.Mode.{Mode}
+use Rattle.row_words.specs.declared.mode.Mode.the-variants.{Paeth, Smooth, SmoothV, SmoothH, Directional}
 use Rattle.direct_calls.specs.Direct.{Predictor}
 use Rattle.paeth.specs.Paeth.{paethAt}
 use Rattle.smooth.specs.Smooth.{smoothAt, smoothVAt, smoothHAt}

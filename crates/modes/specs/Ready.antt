@@ -6,7 +6,7 @@ use Prim.Native.Nat.{ℕ}
 use lib.IntN.{ℤ}
 use lib.Ieee.{Float}
 use Rattle.numbers.specs.Depth.{isDepth, most}
-use Rattle.numbers.specs.Mode.{DeltaInRange}
+use Rattle.row_words.specs.Mode.{DeltaInRange}
 use Rattle.lists.specs.Block.{block}
 use Rattle.direct_calls.specs.Given.{Given}
 use Rattle.job.specs.declared.job.Job.{Job}

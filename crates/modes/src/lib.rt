@@ -1,6 +1,6 @@
 // "Modes: 0 Paeth, 1 smooth, 2 smooth_v, 3 smooth_h, 4 a direction with its delta." (document 01, Ranges and numbers that name things)
 use job::job::Job;
-use numbers::mode::Mode;
+use row_words::mode::Mode;
 ghost use mathlib.Core.Path.{_≡_};
 ghost use lib.ListN.{length};
 ghost use Rattle.modes.specs.Ready.{Ready, predictedBlock};

@@ -3,6 +3,4 @@ pub mod Look
 pub mod Agree
 pub mod Named
 pub mod Colours
-pub mod Angle
-pub mod Modes
-pub mod Place
+pub mod Most

@@ -4,9 +4,10 @@ use mathlib.Core.Path.{_≡_, refl, sym, _∙_, ap, subst}
 use mathlib.Core.Bool.{Bool, true, false, cond, _||_, true≢false}
 use mathlib.Core.List.{List, [], _∷_}
 use Prim.Native.Nat.{ℕ}
+use native.Mathlib.Omega.{arith}
 use lib.Dec.{eqb}
 use borrow.Author.Tests.{eqb-true}
-use Rattle.numbers.specs.Look.{look, among}
+use Rattle.numbers.specs.Look.{only, nothing, look, among}
 
 -- cases of E as the answer F holds them: two answers that hold a case are equal only where the cases are, and `none` holds none
 module _ {E F : Type 0} (number : E → ℕ) (is : E → F) (none : F) (same : (a b : E) → is a ≡ is b → a ≡ b) (other : (e : E) → none ≡ is e → ⊥) where
@@ -49,3 +50,14 @@ among-all number P (e ∷ es) n all h = go (eqb n (number e)) (eqb-true n (numbe
     go : (t : Bool) → (t ≡ true → n ≡ number e) → (among number es n ≡ true → P n) → (t || among number es n) ≡ true → P n
     go true y later k = subst P (sym (y refl)) (all .0)
     go false y later k = later k
+
+-- a case that may be there
+module _ {E : Type 0} where
+  pub only-same : (a b : E) → only a ≡ only b → a ≡ b
+  only-same a b h = cc
+
+  only-none : (e : E) → nothing ≡ only e → ⊥
+  only-none e h = let z : _≡_ {A = ℕ} 0 1 = cc in omega arith
+
+  pub find-back : (number : E → ℕ) (es : List E) (n : ℕ) (e : E) → look number only nothing es n ≡ only e → number e ≡ n
+  find-back number es n e h = look-back number only nothing only-same only-none es n e h

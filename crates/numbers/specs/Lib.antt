@@ -3,9 +3,5 @@ pub mod Look
 pub mod Limits
 pub mod Size
 pub mod Depth
-pub mod Dir
 pub mod Colour
-pub mod Mode
-pub mod Flag
-pub mod Word
 pub mod Answer

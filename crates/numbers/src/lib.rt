@@ -1,11 +1,8 @@
-// Every number that names something (docs/NUMBERS.md), once: sizes, depths, directions, colour directions, modes, flag bits, words of a row, answers.
+// Numbers that name something (docs/NUMBERS.md), each once: sizes, depths, colour directions, answers, and the limits of planes and plans. Those that the
+// words of a job's row hold stand in `row_words`.
 pub mod answer;
 pub mod colour;
 pub mod depth;
-pub mod dir;
-pub mod flag;
-pub mod mode;
 pub mod plan;
 pub mod plane;
 pub mod size;
-pub mod word;

@@ -5,8 +5,8 @@ use mathlib.Core.List.{List, [], _∷_, _++_}
 use Prim.Native.Nat.{ℕ}
 use Rattle.numbers.specs.Size.{isSize}
 use Rattle.numbers.specs.Depth.{isDepth}
-use Rattle.numbers.specs.Dir.{isDir, isDelta}
-use Rattle.numbers.specs.Flag.{isSet, noStray}
+use Rattle.row_words.specs.Dir.{isDir, isDelta}
+use Rattle.row_words.specs.Flag.{isSet, noStray}
 use Rattle.numbers.specs.Answer.{isDone}
 use Rattle.numbers.specs.declared.answer.Answer.{Answer}
 use Rattle.numbers.specs.declared.answer.Answer.the-variants.{Done, NotEachOnce, PairTurned}
@@ -15,7 +15,7 @@ use Rattle.reorder.specs.Test.{allBelow}
 use Rattle.reorder.specs.Entry.{count, place}
 use Rattle.reorder.specs.Rect.{clashB, crossB, meetAnyB, meetB}
 use Rattle.reorder.specs.Check.{onceB, keptB}
-use Rattle.numbers.specs.Mode.{namedMode}
+use Rattle.row_words.specs.Mode.{namedMode}
 use Rattle.job.specs.Mode.{rowMode, isMode}
 use Rattle.job.specs.Rules.{hasDifferences, rowAnswer, stands}
 use Rattle.job.specs.Rects.{readsOf, writesOf, clashOf}

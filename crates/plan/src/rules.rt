@@ -1,8 +1,8 @@
 // "A run tests 20 to 23" (document 01, Refusal numbers, in order of checking).
 use numbers::answer::Answer;
 use numbers::plan::Plan;
-use numbers::word::Word;
 use order::kept;
+use row_words::word::Word;
 ghost use mathlib.Core.Path.{_≡_};
 ghost use Rattle.plan.specs.Rules.{isPlan, runAnswer};
 

@@ -4,7 +4,7 @@ pub mod corner;
 pub mod steps;
 mod strength;
 
-use numbers::flag::Flags;
+use row_words::flag::Flags;
 ghost use mathlib.Core.Path.{_≡_};
 ghost use Prim.Native.Nat.{_≤_};
 ghost use Rattle.setting.specs.Setting.{distanceOf, strengthAbove, strengthLeft, limitAbove, limitLeft};

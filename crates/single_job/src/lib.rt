@@ -2,7 +2,7 @@
 use job::job::FoundJob;
 use job::job::Job;
 use numbers::answer::Answer;
-use numbers::word::Word;
+use row_words::word::Word;
 ghost use Prim.Native.Nat.{_*_, _≤_};
 ghost use lib.ListN.{length};
 ghost use Rattle.refusals.specs.Promise.{Promise};

@@ -9,7 +9,7 @@ use mir.Val.{toZ, ofZ}
 use mir.Facts.{toZ-ofZ}
 use Rattle.signed.proofs.Bound.{back-abs}
 use Rattle.directional.specs.Words.{turnedBy}
-use Rattle.numbers.specs.declared.mode.Mode.the-variants.{Paeth, Smooth, SmoothV, SmoothH}
+use Rattle.row_words.specs.declared.mode.Mode.the-variants.{Paeth, Smooth, SmoothV, SmoothH}
 use Rattle.lists.specs.Block.{block}
 use Rattle.paeth.specs.Paeth.{paethAt}
 use Rattle.modes.proofs.Modes.{paeth-asks, smooth-asks, turned-asks, block-is}

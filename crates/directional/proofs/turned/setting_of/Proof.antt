@@ -3,7 +3,7 @@ use borrow.Author.Needs.{needs}
 use mathlib.Core.Path.{_∙_, ap}
 use lib.IntN.{natAbs}
 use mir.Facts.{toZ-ofZ}
-use Rattle.numbers.specs.Dir.{angleOf}
+use Rattle.row_words.specs.Dir.{angleOf}
 use Rattle.directional.proofs.turned.setting_of.Statement.{statement}
 use Rattle.directional.proofs.turned.setting_of.Tie as tie
 

@@ -9,9 +9,9 @@ use mir.Val.{toZ, ofZ}
 use mir.Facts.{toZ-ofZ}
 use borrow.Author.Needs.{sfits-of}
 use Rattle.numbers.specs.Depth.{most}
-use Rattle.numbers.specs.Dir.{angleOf}
+use Rattle.row_words.specs.Dir.{angleOf}
 use Rattle.numbers.proofs.Agree.{depth-no, depth-back}
-use Rattle.numbers.proofs.Angle.{angle-range}
+use Rattle.row_words.proofs.Angle.{angle-range}
 use Rattle.signed.proofs.Bound.{back}
 use Rattle.signed.proofs.Range.{pos-inside}
 use Rattle.lists.specs.Block.{block}

@@ -8,9 +8,9 @@ use mir.Val.{toZ, ofZ}
 use mir.Facts.{toZ-ofZ}
 use borrow.Author.Needs.{sfits-of}
 use Rattle.numbers.specs.Depth.{most}
-use Rattle.numbers.specs.Dir.{isDir, isDelta, deltaOf, angleOf, dirOf}
-use Rattle.numbers.proofs.Agree.{dir-no}
-use Rattle.numbers.proofs.Angle.{delta-small}
+use Rattle.row_words.specs.Dir.{isDir, isDelta, deltaOf, angleOf, dirOf}
+use Rattle.row_words.proofs.Dirs.{dir-no}
+use Rattle.row_words.proofs.Angle.{delta-small}
 use Rattle.signed.proofs.Bound.{back}
 use Rattle.lists.specs.Block.{block}
 use Rattle.directional.specs.Words.{angleFrom, settingOf}

@@ -3,8 +3,8 @@ use borrow.Author.Needs.{needs}
 use mathlib.Core.Path.{_≡_, sym, _∙_}
 use mathlib.Core.Bool.{true}
 use borrow.Author.Tests.{not-true, not-false}
-use Rattle.numbers.specs.Dir.{isDir}
-use Rattle.numbers.proofs.Agree.{dir-yes, dir-no}
+use Rattle.row_words.specs.Dir.{isDir}
+use Rattle.row_words.proofs.Dirs.{dir-yes, dir-no}
 use Rattle.directional.specs.Words.{isNamed}
 use Rattle.directional.proofs.words.is_named.Statement.{statement}
 use Rattle.directional.proofs.words.is_named.Tie as tie

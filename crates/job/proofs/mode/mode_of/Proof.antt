@@ -3,12 +3,12 @@ use borrow.Author.Needs.{needs}
 use borrow.Author.Tests.{not-true, not-false}
 use mathlib.Core.Path.{_≡_, sym, _∙_, ap}
 use mathlib.Core.Bool.{Bool, cond}
-use Rattle.numbers.specs.Flag.{noStray}
-use Rattle.numbers.specs.declared.word.Word.the-variants.{ModeWord, DirectionWord, DeltaWord}
+use Rattle.row_words.specs.Flag.{noStray}
+use Rattle.row_words.specs.declared.word.Word.the-variants.{ModeWord, DirectionWord, DeltaWord}
 use Rattle.job.specs.Row.{word}
-use Rattle.numbers.specs.Mode.{namedMode}
+use Rattle.row_words.specs.Mode.{namedMode}
 use Rattle.job.specs.Mode.{rowMode}
-use Rattle.numbers.specs.declared.mode.FoundMode.the-variants.{NoMode}
+use Rattle.row_words.specs.declared.mode.FoundMode.the-variants.{NoMode}
 use Rattle.job.proofs.mode.mode_of.Statement.{statement}
 use Rattle.job.proofs.mode.mode_of.Tie as tie
 

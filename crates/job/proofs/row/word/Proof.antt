@@ -3,7 +3,7 @@ use borrow.Author.Needs.{needs}
 use mathlib.Core.Path.{ap}
 use native.Mathlib.Omega.{arith}
 use lib.ListN.{getD}
-use Rattle.numbers.proofs.Place.{word-below}
+use Rattle.row_words.proofs.Place.{word-below}
 use Rattle.job.proofs.row.word.Statement.{statement}
 use Rattle.job.proofs.row.word.Tie as tie
 

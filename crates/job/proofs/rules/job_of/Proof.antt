@@ -1,7 +1,7 @@
 -- `job_of` meets its contract. Assumes nothing.
 use borrow.Author.Needs.{needs}
 use mathlib.Core.Path.{_∙_, ap}
-use Rattle.numbers.specs.Flag.{flagsOf}
+use Rattle.row_words.specs.Flag.{flagsOf}
 use Rattle.job.proofs.rules.job_of.Statement.{statement}
 use Rattle.job.proofs.rules.job_of.Tie as tie
 

@@ -5,7 +5,7 @@ use borrow.Author.Tests.{not-true, not-false}
 use mathlib.Core.Path.{refl, sym, _∙_, ap}
 use Rattle.numbers.specs.Answer.{isDone}
 use Rattle.numbers.specs.Depth.{isDepth}
-use Rattle.numbers.specs.Mode.{isFound}
+use Rattle.row_words.specs.Mode.{isFound}
 use Rattle.refusals.proofs.Ladder.{kept, broken, all-of, segment-kept, segment-broken}
 use Rattle.job.specs.Mode.{isMode}
 use Rattle.job.specs.Job.{jobWith, modeIn}

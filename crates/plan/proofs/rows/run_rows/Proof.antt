@@ -7,7 +7,7 @@ use lib.ListN.{length, length-set}
 use Rattle.lists.proofs.Block.{part-length}
 use Rattle.block_spec.specs.Rules.{isPlane}
 use Rattle.job_work.proofs.Laws.{keeps}
-use Rattle.numbers.proofs.Place.{answer-most}
+use Rattle.numbers.proofs.Most.{answer-most}
 use Rattle.plan.proofs.Steps.{none-done, all-done, one-more}
 use Rattle.plan.proofs.rows.run_rows.Proof.Loop.{Inv-loop, μ-loop, t, entry, row-in, slot-in, low, row-is}
 use Rattle.plan.proofs.rows.run_rows.Statement.{statement}

@@ -4,10 +4,10 @@ use mathlib.Core.Path.{_≡_, refl, sym, _∙_, ap}
 use mathlib.Core.Bool.{true}
 use mathlib.Core.List.{List, [], _∷_, _++_}
 use Rattle.numbers.specs.Answer.{isDone}
-use Rattle.numbers.specs.Mode.{isFound}
+use Rattle.row_words.specs.Mode.{isFound}
 use Rattle.numbers.specs.declared.answer.Answer.{Answer}
 use Rattle.numbers.specs.declared.answer.Answer.the-variants.{BadMode, NoDifferences}
-use Rattle.numbers.specs.declared.mode.FoundMode.the-variants.{Is}
+use Rattle.row_words.specs.declared.mode.FoundMode.the-variants.{Is}
 use Rattle.refusals.specs.Ladder.{Rule, _else_, ladder}
 use Rattle.refusals.proofs.Ladder.{kept, segment-kept}
 use Rattle.block_spec.specs.Rules.{sizeRules, placeRules}
