@@ -2,9 +2,9 @@
 use crate::choice;
 use numbers::depth::Depth;
 use numbers::depth::FoundDepth;
-use setting::Setting;
 use row_words::dir::Dir;
 use row_words::flag::Flags;
+use setting::Setting;
 ghost use mathlib.Core.Path.{_≡_};
 ghost use mathlib.Core.Bool.{true};
 ghost use Prim.Native.Nat.{_≤_};
