@@ -1,9 +1,8 @@
--- What the kept rules give, and where the samples lie then: each place up to the block's first is in the plane, and so are the neighbours' lines.
--- Assumes nothing.
+-- What the kept rules give, and where samples lie then: each place up to the block's first is in the plane. Assumes nothing.
 use mathlib.Core.Path.{_≡_, sym, _∙_, ap}
 use mathlib.Core.Bool.{Bool, true, not, _&&_, _||_}
-use Prim.Native.Nat.{ℕ, _+_, _-_, _*_, _≤_, _<_, min}
-use native.Mathlib.Nat.{mul-comm, mul-le-mul, add-mul}
+use Prim.Native.Nat.{ℕ, _+_, _*_, _≤_, _<_, min}
+use native.Mathlib.Nat.{mul-comm, mul-le-mul}
 use native.Mathlib.Omega.{arith}
 use lib.Arith.{digits-lt}
 use lib.Dec.{leb, eqb}

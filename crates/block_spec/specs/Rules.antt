@@ -1,4 +1,5 @@
--- Rules 20, 1, 2, 4, 5 and 6 as document 01's table has them, over whole numbers.
+-- Rules 20, 1, 2, 4, 5 and 6 as document 01's table has them, over whole numbers. Each test is true where its refusal is not given; the refusal is
+-- quoted over it.
 use mathlib.Core.Bool.{Bool, not, _&&_, _||_}
 use mathlib.Core.List.{List, [], _∷_}
 use Prim.Native.Nat.{ℕ, _+_, _-_, _*_, min}

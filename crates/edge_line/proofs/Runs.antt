@@ -14,7 +14,7 @@ use Rattle.edge_line.specs.Along.{along}
 use Rattle.edge_line.specs.Every.{every}
 use Rattle.edge_line.specs.Run.{runAt, Run, Line}
 use Rattle.edge_line.proofs.Every.{every-same, every-join}
-use Rattle.edge_line.proofs.Along.{along-here, along-far, every-along}
+use Rattle.edge_line.proofs.Along.{along-here, every-along}
 
 -- the far run's samples, from the line's start on
 pub far-at : (plane : List Float) (start stride bs i : ℕ) → runAt plane (start + bs * stride) stride i ≡ runAt plane start stride (bs + i)

@@ -13,7 +13,7 @@ pub record Run (size start stride n : ℕ) : Type 0 where
   pub near : stride ≤ 4096
   pub small : size ≤ 16777216
 
--- a neighbour's line of samples, of which `first` of the first bs are there, and `more` after those: it lies in the plane
+-- a neighbour's line of samples, of which `first` of the first bs are there, and `more` from bs on: it lies in the plane
 pub record Line (size start stride bs first more : ℕ) : Type 0 where
   pub block : (1 ≤ bs) × (bs ≤ 64)
   pub counts : (1 ≤ first) × (first ≤ bs) × (more ≤ bs)

@@ -1,5 +1,5 @@
-// An edge of a neighbour that is there, along a line of samples from `start` on: `first` of its first bs, repeats up to bs, and samples from there up to
-// `end`. What follows them, in each edge, is one number. Two runs that meet are one.
+// An edge along a line of samples from `start` on. `first` of its first bs entries have their own sample, and the last of these repeats up to bs; from
+// bs up to `end` each entry has its own again. Where `first` is bs, the two runs are taken as one. `repeat_from` puts one number into the entries after.
 use crate::run;
 ghost use mathlib.Core.Path.{_≡_};
 ghost use mathlib.Core.Bool.{true};

@@ -1,4 +1,4 @@
--- What the edges and the corner hold, and what `build_refs` promises.
+-- What the corner's output holds, and what `build_refs` promises of all three.
 use mathlib.Core.List.{List}
 use Prim.Native.Nat.{ℕ}
 use lib.IntN.{ℤ}
@@ -21,10 +21,11 @@ pub record Lists : Type 0 where
   pub left : List ℤ
   pub corner : List ℤ
 
--- what a call promises of its answer r and of its outputs, before and after
+-- the answer of a call with these outputs
 abbrev pub answerFor : List Float → ℕ → ℕ → IntraRefSpec → Lists → Answer
 answerFor plane W H s before = refsAnswer plane W H s (length (before .above)) (length (before .left)) (length (before .corner))
 
+-- what they hold if it is done
 abbrev pub refsOf : List Float → ℕ → IntraRefSpec → Lists → Lists
 refsOf plane W s before = record {
   above = aboveOf plane W s (before .above);
@@ -32,5 +33,6 @@ refsOf plane W s before = record {
   corner = cornerOf plane W s (before .corner);
 }
 
+-- what a call promises of its answer r and of its outputs, before and after
 abbrev pub Built : List Float → ℕ → ℕ → IntraRefSpec → Lists → Lists → Answer → Type 0
 Built plane W H s before after r = Promise (answerFor plane W H s before) (lent (answerFor plane W H s before) (refsOf plane W s before) before) r after

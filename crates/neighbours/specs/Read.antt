@@ -16,10 +16,11 @@ use Rattle.neighbours.specs.Spot.{spotOf, spotInRange}
 abbrev pub behindInRange : ℕ → ℕ → List Float → Behind → Bool
 behindInRange M W plane b = spotInRange (pos M) plane (spotOf W b)
 
--- "a plane sample .. that is read is not a number in 0..M": those behind the 2B entries of both edges, and behind the corner
+-- those behind the 2B entries of one edge
 unfoldable pub edgeRead : List Float → ℕ → IntraRefSpec → (ℕ → Behind) → Bool
 edgeRead plane W s behind = every (λ c. behindInRange (most (s .d)) W plane (behind c)) (2 * s .b)
 
+-- "a plane sample .. that is read is not a number in 0..M": those behind the 2B entries of both edges, and behind the corner
 unfoldable pub allRead : List Float → ℕ → IntraRefSpec → Bool
 allRead plane W s =
     edgeRead plane W s (aboveBehind s) && edgeRead plane W s (leftBehind s) && behindInRange (most (s .d)) W plane (cornerBehind s)

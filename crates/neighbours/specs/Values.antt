@@ -8,10 +8,11 @@ use Rattle.block_spec.specs.declared.spec.IntraRefSpec.{IntraRefSpec}
 use Rattle.block_spec.specs.Behind.{Behind, aboveBehind, leftBehind}
 use Rattle.neighbours.specs.Spot.{spotOf, spotValue}
 
--- the number that an entry is: its sample as it reads, or the number itself
+-- the number of what stands behind an entry
 abbrev pub valueOf : ℕ → List Float → Behind → ℤ
 valueOf W plane b = spotValue plane (spotOf W b)
 
+-- the 128 entries above and at the left, and the tail as it was
 abbrev pub aboveOf : List Float → ℕ → IntraRefSpec → List ℤ → List ℤ
 aboveOf plane W s before = edgeOf (s .b) (λ c. valueOf W plane (aboveBehind s c)) before
 

@@ -55,7 +55,7 @@ fn fill_side(plane: &[f32], side: Side, spare: i32, edge: &mut [i32])
     edge::repeat_from(last, end, 2 * side.bs, edge);
 }
 
-// Zeros from entry 2 b on.
+// Zeros from entry 2 b on, up to 128.
 fn clear_rest(b: u16, edge: &mut [i32])
     requires { ⌜ (b ≤ 64) × (128 ≤ length (now edge)) ⌝ }
     ensures { λ _. ⌜ now (edge .exit) ≡ filled 128 (onward (now (edge .entry)) (2 * b) (pos 0)) (now (edge .entry)) ⌝ }
@@ -63,7 +63,7 @@ fn clear_rest(b: u16, edge: &mut [i32])
     edge::repeat_from(0, 2 * b as usize, Size::REF_CAP, edge);
 }
 
-// Both edges, and the corner.
+// Both edges are written; the corner's number is returned.
 pub fn fill_edges(
     plane: &[f32],
     width: usize,

@@ -1,4 +1,4 @@
-// The test of the samples that `build_refs` reads, 8 (document 01, Refusal numbers): those behind the entries of both edges, and behind the corner.
+// The test of the samples that `build_refs` and a job read, 8 (document 01, Refusal numbers): those behind the entries of both edges, and behind the corner.
 use crate::side;
 use crate::side::Side;
 use crate::side::Spot;

@@ -13,7 +13,7 @@ mostSide = 4096
 abbrev pub mostJobs : ℕ
 mostJobs = 1024
 
--- "A job is a row of sixteen 16-bit words" `Word::COUNT`
+-- "A job is a row of sixteen 16-bit words" `Word::COUNT` of row_words
 abbrev pub rowWords : ℕ
 rowWords = 16
 
