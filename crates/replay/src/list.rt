@@ -1,9 +1,8 @@
 // A file of the list: each line that is no comment is a case.
-use crate::derived;
-use crate::predicted;
-use crate::predictors;
-use crate::refs;
-use crate::runs;
+use colour_cases::derived;
+use colour_cases::predicted;
+use luma_cases::predictors;
+use luma_cases::refs;
 
 pub struct Tally {
     pub cases: u64,
@@ -32,7 +31,7 @@ fn agrees(s: &[u8], at: usize, letter: u8) -> bool {
         b'R' => refs::agrees(s, at),
         b'C' => derived::agrees(s, at),
         b'B' => predicted::agrees(s, at),
-        b'J' => runs::agrees(s, at),
+        b'J' => run_cases::agrees(s, at),
         _ => predictors::agrees(s, at, letter),
     }
 }

@@ -1,13 +1,5 @@
 // Replays the list of the original's answers, data/*.txt (oracle/record made it), and prints how many cases there are and how many differ.
-mod colour;
-mod derived;
-mod line;
 mod list;
-mod predicted;
-mod predictors;
-mod refs;
-mod room;
-mod runs;
 
 use crate::list::Tally;
 use libc::STDOUT_FILENO;

@@ -3,4 +3,5 @@ pub mod checked;
 pub mod fill;
 pub mod first;
 pub mod kind;
+pub mod room;
 pub mod same;

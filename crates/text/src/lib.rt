@@ -1,4 +1,5 @@
 // Text of decimal numbers, with spaces and line ends between them, for the programs.
+pub mod line;
 pub mod word;
 
 use word::digit;

@@ -1,11 +1,11 @@
 // A case of `predict_block` (document 01, Colour parameters): its lists as long as the case says, its answer's number, and what the output holds
 // afterwards.
-use crate::colour;
-use crate::line;
-use crate::room;
+use crate::window;
 use series::first;
 use series::kind;
+use series::room;
 use series::same;
+use text::line;
 
 fn param(s: &[u8], at: usize, n: usize) -> i32 {
     kind::signed(line::number(s, at, n))
@@ -13,7 +13,7 @@ fn param(s: &[u8], at: usize, n: usize) -> i32 {
 
 // The call's answer's number.
 fn call(s: &[u8], at: usize, luma: &[i32], out: &mut [i32]) -> u32 {
-    let w = colour::window_at(s, at);
+    let w = window::window_at(s, at);
     colour_block::predict_block(
         luma,
         w,
@@ -46,7 +46,7 @@ fn answer(s: &[u8], at: usize, luma: &[i32], out: &mut [i32]) -> u32 {
 fn case_agrees(s: &[u8], at: usize, luma: &mut [i32], out: &mut [i32]) -> bool {
     let rows = line::size(s, at, 16);
     let columns = line::size(s, at, 17);
-    let next = colour::corner(s, line::past(s, at, 18), rows, columns, luma);
+    let next = window::corner(s, line::past(s, at, 18), rows, columns, luma);
     if answer(s, at, luma, out) != line::number(s, at, 15) {
         return false;
     }

@@ -3,8 +3,8 @@ use Prim.Native.Nat.{_≤_}
 use native.Mathlib.Nat.{mul-le-mul}
 use native.Mathlib.Omega.{arith}
 use borrow.Author.Needs.{needs}
-use Rattle.replay.proofs.room.area.Statement.{statement}
-use Rattle.replay.proofs.room.area.Tie as tie
+use Rattle.series.proofs.room.area.Statement.{statement}
+use Rattle.series.proofs.room.area.Tie as tie
 
 mul-result : tie.Need-mul-result
 mul-result c =

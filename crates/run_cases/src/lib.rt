@@ -1,10 +1,10 @@
-// A case of `run` (document 01, Refusal numbers, in order of checking): its lists as long as the case says, its answer's number, and what the answers
-// and the plane hold afterwards.
-use crate::line;
-use crate::room;
+// A case of `run` in the replayed list (document 01, Refusal numbers, in order of checking): its lists as long as the case says, its answer's number,
+// and what the answers and the plane hold afterwards.
 use series::fill;
 use series::first;
+use series::room;
 use series::same;
+use text::line;
 
 // The call's answer's number.
 fn run(

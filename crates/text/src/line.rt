@@ -5,7 +5,7 @@ pub fn past(s: &[u8], at: usize, n: usize) -> usize {
     let mut i = at;
     let mut c = 0;
     while c < n {
-        let t = text::number(s, i);
+        let t = crate::number(s, i);
         i = t.next;
         c += 1;
     }
@@ -14,7 +14,7 @@ pub fn past(s: &[u8], at: usize, n: usize) -> usize {
 
 // The number after n others.
 pub fn number(s: &[u8], at: usize, n: usize) -> u32 {
-    let t = text::number(s, past(s, at, n));
+    let t = crate::number(s, past(s, at, n));
     t.value
 }
 

@@ -3,8 +3,8 @@ use mathlib.Core.Path.{_≡_}
 use Prim.Native.Nat.{_-_}
 use lib.ListN.{length}
 use borrow.Author.Needs.{needs}
-use Rattle.replay.proofs.colour.corner.Statement.{statement}
-use Rattle.replay.proofs.colour.corner.Tie as tie
+use Rattle.colour_cases.proofs.window.corner.Statement.{statement}
+use Rattle.colour_cases.proofs.window.corner.Tie as tie
 
 abbrev Inv-loop : tie.InvT-loop
 Inv-loop s at rows columns list₀ i₀ r₀ list i r = length list ≡ length list₀

@@ -1,8 +1,8 @@
 -- `past` meets its contract: it ends. Assumes nothing.
 use Prim.Native.Nat.{_-_}
 use borrow.Author.Needs.{needs}
-use Rattle.replay.proofs.line.past.Statement.{statement}
-use Rattle.replay.proofs.line.past.Tie as tie
+use Rattle.text.proofs.line.past.Statement.{statement}
+use Rattle.text.proofs.line.past.Tie as tie
 
 abbrev Inv-loop : tie.InvT-loop
 Inv-loop s at n i₀ c₀ i c = Unit

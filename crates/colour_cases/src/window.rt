@@ -1,8 +1,8 @@
 // What the colour cases of the list share (document 01, Colour parameters): a window's sizes, and lists of which a line has the first columns of the
 // first rows.
-use crate::line;
 use colour_sums::window::Window;
 use series::fill;
+use text::line;
 
 // The window's sizes stand after the depth and the direction.
 pub fn window_at(s: &[u8], at: usize) -> Window {

@@ -1,14 +1,14 @@
 // A case of `derive_params` (document 01, Colour parameters): its lists as long as the case says, its answer's number, and what the list of parameters
 // holds afterwards.
-use crate::colour;
-use crate::line;
-use crate::room;
+use crate::window;
 use series::first;
+use series::room;
 use series::same;
+use text::line;
 
 // The call's answer's number.
 fn call(s: &[u8], at: usize, luma: &[i32], chroma: &[i32], params: &mut [i32]) -> u32 {
-    let w = colour::window_at(s, at);
+    let w = window::window_at(s, at);
     let d = line::number(s, at, 0);
     let direction = line::number(s, at, 1);
     colour_params::derive_into(luma, chroma, w, direction, d, params).number()
@@ -25,7 +25,7 @@ fn answer(s: &[u8], at: usize, luma: &[i32], chroma: &[i32], params: &mut [i32])
 
 // A list's first rows and columns from a place on, and the place after them.
 fn read(s: &[u8], at: usize, from: usize, list: &mut [i32]) -> usize {
-    colour::corner(s, from, line::size(s, at, 10), line::size(s, at, 11), list)
+    window::corner(s, from, line::size(s, at, 10), line::size(s, at, 11), list)
 }
 
 // Whether a case agrees. The three lists are room to work in.
