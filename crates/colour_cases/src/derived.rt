@@ -6,21 +6,14 @@ use series::room;
 use series::same;
 use text::line;
 
-// The call's answer's number.
-fn call(s: &[u8], at: usize, luma: &[i32], chroma: &[i32], params: &mut [i32]) -> u32 {
+// The call's answer's number, on the parameters' first entries.
+fn answer(s: &[u8], at: usize, luma: &[i32], chroma: &[i32], params: &mut [i32]) -> u32 {
     let w = window::window_at(s, at);
     let d = line::number(s, at, 0);
     let direction = line::number(s, at, 1);
-    colour_params::derive_into(luma, chroma, w, direction, d, params).number()
-}
-
-// The same, on the lists' first entries.
-fn answer(s: &[u8], at: usize, luma: &[i32], chroma: &[i32], params: &mut [i32]) -> u32 {
     let from = 0;
     let to = first::within(line::size(s, at, 8), params.len());
-    let first_luma = first::entries(luma, line::size(s, at, 6));
-    let first_chroma = first::entries(chroma, line::size(s, at, 7));
-    call(s, at, first_luma, first_chroma, &mut params[from..to])
+    colour_params::derive_into(luma, chroma, w, direction, d, &mut params[from..to]).number()
 }
 
 // A list's first rows and columns from a place on, and the place after them.
@@ -28,26 +21,31 @@ fn read(s: &[u8], at: usize, from: usize, list: &mut [i32]) -> usize {
     window::corner(s, from, line::size(s, at, 10), line::size(s, at, 11), list)
 }
 
-// Whether a case agrees. The three lists are room to work in.
-fn case_agrees(
-    s: &[u8],
-    at: usize,
-    luma: &mut [i32],
-    chroma: &mut [i32],
-    params: &mut [i32],
-) -> bool {
-    let past_luma = read(s, at, line::past(s, at, 12), luma);
-    let next = read(s, at, past_luma, chroma);
-    if answer(s, at, luma, chroma, params) != line::number(s, at, 9) {
+// Whether the case agrees, where its lists are read and its parameters stand at a place.
+fn on_lists(s: &[u8], at: usize, next: usize, luma: &[i32], chroma: &[i32]) -> bool {
+    let mut params = room::entries();
+    if answer(s, at, luma, chroma, &mut params) != line::number(s, at, 9) {
         return false;
     }
-    line::ends(s, same::entries(s, next, params, line::size(s, at, 8)))
+    line::ends(s, same::entries(s, next, &params, line::size(s, at, 8)))
+}
+
+// The same, where its chroma stands at a place.
+fn on_luma(s: &[u8], at: usize, next: usize, luma: &[i32]) -> bool {
+    let mut chroma = room::window();
+    let past = read(s, at, next, &mut chroma);
+    on_lists(
+        s,
+        at,
+        past,
+        luma,
+        first::entries(&chroma, line::size(s, at, 7)),
+    )
 }
 
 // Whether the case at a place agrees.
 pub fn agrees(s: &[u8], at: usize) -> bool {
     let mut luma = room::window();
-    let mut chroma = room::window();
-    let mut params = room::entries();
-    case_agrees(s, at, &mut luma, &mut chroma, &mut params)
+    let past = read(s, at, line::past(s, at, 12), &mut luma);
+    on_luma(s, at, past, first::entries(&luma, line::size(s, at, 6)))
 }

@@ -30,32 +30,27 @@ fn call(s: &[u8], at: usize, luma: &[i32], out: &mut [i32]) -> u32 {
     ).number()
 }
 
-// The same, on the lists' first entries.
+// The same, on the output's first entries.
 fn answer(s: &[u8], at: usize, luma: &[i32], out: &mut [i32]) -> u32 {
     let from = 0;
     let to = first::within(line::size(s, at, 14), out.len());
-    call(
-        s,
-        at,
-        first::entries(luma, line::size(s, at, 13)),
-        &mut out[from..to],
-    )
+    call(s, at, luma, &mut out[from..to])
 }
 
-// Whether a case agrees. The two lists are room to work in.
-fn case_agrees(s: &[u8], at: usize, luma: &mut [i32], out: &mut [i32]) -> bool {
-    let rows = line::size(s, at, 16);
-    let columns = line::size(s, at, 17);
-    let next = window::corner(s, line::past(s, at, 18), rows, columns, luma);
-    if answer(s, at, luma, out) != line::number(s, at, 15) {
+// Whether the case agrees, where its luma is read and its output stands at a place.
+fn on_luma(s: &[u8], at: usize, next: usize, luma: &[i32]) -> bool {
+    let mut out = room::entries();
+    if answer(s, at, luma, &mut out) != line::number(s, at, 15) {
         return false;
     }
-    line::ends(s, same::entries(s, next, out, line::size(s, at, 14)))
+    line::ends(s, same::entries(s, next, &out, line::size(s, at, 14)))
 }
 
 // Whether the case at a place agrees.
 pub fn agrees(s: &[u8], at: usize) -> bool {
     let mut luma = room::window();
-    let mut out = room::entries();
-    case_agrees(s, at, &mut luma, &mut out)
+    let rows = line::size(s, at, 16);
+    let columns = line::size(s, at, 17);
+    let past = window::corner(s, line::past(s, at, 18), rows, columns, &mut luma);
+    on_luma(s, at, past, first::entries(&luma, line::size(s, at, 13)))
 }

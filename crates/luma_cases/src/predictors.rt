@@ -95,41 +95,34 @@ fn call(s: &[u8], at: usize, letter: u8, above: &[i32], left: &[i32], out: &mut 
     plain(letter, b, d, above, left, corner(s, at, 2), out)
 }
 
-// Its answer's number, on the lists' first entries.
+// Its answer's number, on the output's first entries.
 fn answer(s: &[u8], at: usize, letter: u8, above: &[i32], left: &[i32], out: &mut [f32]) -> u32 {
     let from = 0;
     let to = first::within(area(s, at, letter), out.len());
-    let first_above = first::entries(above, edge(s, at, letter, 8));
-    let first_left = first::entries(left, edge(s, at, letter, 9));
-    call(s, at, letter, first_above, first_left, &mut out[from..to]).number()
+    call(s, at, letter, above, left, &mut out[from..to]).number()
 }
 
-// Fills both edges, and returns the place after them.
-fn read_edges(s: &[u8], at: usize, letter: u8, above: &mut [i32], left: &mut [i32]) -> usize {
-    let next = fill::entries(s, lists(s, at, letter), above, edge(s, at, letter, 8));
-    fill::entries(s, next, left, edge(s, at, letter, 9))
-}
-
-// Whether a case agrees. The three lists are room to work in.
-fn case_agrees(
-    s: &[u8],
-    at: usize,
-    letter: u8,
-    above: &mut [i32],
-    left: &mut [i32],
-    out: &mut [f32],
-) -> bool {
-    let next = read_edges(s, at, letter, above, left);
-    if answer(s, at, letter, above, left, out) != due(s, at, letter) {
+// Whether the case agrees, where its edges are read and its output stands at a place.
+fn on_edges(s: &[u8], at: usize, letter: u8, next: usize, above: &[i32], left: &[i32]) -> bool {
+    let mut out = room::block();
+    if answer(s, at, letter, above, left, &mut out) != due(s, at, letter) {
         return false;
     }
-    line::ends(s, same::samples(s, next, out, area(s, at, letter)))
+    line::ends(s, same::samples(s, next, &out, area(s, at, letter)))
+}
+
+// The same, where its left edge stands at a place.
+fn on_above(s: &[u8], at: usize, letter: u8, next: usize, above: &[i32]) -> bool {
+    let mut left = room::entries();
+    let n = edge(s, at, letter, 9);
+    let past = fill::entries(s, next, &mut left, n);
+    on_edges(s, at, letter, past, above, first::entries(&left, n))
 }
 
 // Whether the case at a place agrees, whose letter stands before it.
 pub fn agrees(s: &[u8], at: usize, letter: u8) -> bool {
     let mut above = room::entries();
-    let mut left = room::entries();
-    let mut out = room::block();
-    case_agrees(s, at, letter, &mut above, &mut left, &mut out)
+    let n = edge(s, at, letter, 8);
+    let past = fill::entries(s, lists(s, at, letter), &mut above, n);
+    on_above(s, at, letter, past, first::entries(&above, n))
 }
