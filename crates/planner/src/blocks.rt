@@ -1,10 +1,12 @@
-// A block's job: its row and its differences at their places in the lists, by the predictor that comes nearest.
-use crate::block;
-use crate::candidate::Candidate;
-use crate::jobs;
+// A block's differences from the predictor that comes nearest, at their place in the plan's.
 use crate::nearest;
 use crate::nearest::Choice;
+use crate::predict;
 use greymap::Greymap;
+use picture_blocks::block;
+use picture_blocks::candidate::Candidate;
+use picture_blocks::distance;
+use picture_blocks::row;
 
 // The differences of the block in a column and a row of blocks from what a predictor, by its number, makes of its edges.
 fn put_differences(
@@ -19,40 +21,26 @@ fn put_differences(
     differences: &mut [i16],
 ) {
     let mut out = [0.0f32; 64];
-    Candidate::of(taken).predict(g.d, jobs::flags_of(c, r), above, left, corner, &mut out);
-    nearest::put_differences(&out, block, jobs::index(g.across, c, r), differences);
-}
-
-// The block's row and its differences, from its edges; and the predictor that was taken.
-fn put_job(
-    g: Greymap,
-    c: u8,
-    r: u8,
-    block: &[u16; 64],
-    above: &[i32],
-    left: &[i32],
-    corner: i32,
-    plan: &mut [u16],
-    differences: &mut [i16],
-) -> Choice {
-    let best = nearest::nearest(block, g.d, jobs::flags_of(c, r), above, left, corner);
-    put_differences(
-        best.number,
-        g,
-        c,
-        r,
-        block,
+    let flags = row::flags_of(c, r);
+    predict::predict(
+        Candidate::of(taken),
+        g.d,
+        flags,
         above,
         left,
         corner,
+        &mut out,
+    );
+    distance::put_differences(
+        &out,
+        block,
+        picture_blocks::index(g.across, c, r),
         differences,
     );
-    jobs::put_row(g, c, r, best.number, plan);
-    best
 }
 
-// The same, of the block's samples.
-fn put_samples(
+// The predictor that comes nearest to the block, from its edges; and the block's differences from it.
+fn on_edges(
     original: &[f32],
     g: Greymap,
     c: u8,
@@ -60,11 +48,22 @@ fn put_samples(
     above: &[i32],
     left: &[i32],
     corner: i32,
-    plan: &mut [u16],
     differences: &mut [i16],
 ) -> Choice {
-    let samples = block::block_of(original, 8 * g.across as u16, 8 * c as u16, 8 * r as u16);
-    put_job(g, c, r, &samples, above, left, corner, plan, differences)
+    let block = block::block_of(original, 8 * g.across as u16, 8 * c as u16, 8 * r as u16);
+    let best = nearest::nearest(&block, g.d, row::flags_of(c, r), above, left, corner);
+    put_differences(
+        best.number,
+        g,
+        c,
+        r,
+        &block,
+        above,
+        left,
+        corner,
+        differences,
+    );
+    best
 }
 
 // The block's edges. Where they are refused, the run refuses the job.
@@ -77,32 +76,15 @@ fn read_edges(
     left: &mut [i32],
     corner: &mut [i32],
 ) {
-    let spec = jobs::spec_of(g, c, r);
+    let spec = row::spec_of(g, c, r);
     edges::build_refs(original, g.width(), g.height(), spec, above, left, corner);
 }
 
-// The job of a block at its place in the lists.
-pub fn put_block(
-    original: &[f32],
-    g: Greymap,
-    c: u8,
-    r: u8,
-    plan: &mut [u16],
-    differences: &mut [i16],
-) -> Choice {
+// The predictor that is taken for a block, and the block's differences at their place.
+pub fn put_block(original: &[f32], g: Greymap, c: u8, r: u8, differences: &mut [i16]) -> Choice {
     let mut above = [0i32; 128];
     let mut left = [0i32; 128];
     let mut corner = [0i32; 1];
     read_edges(original, g, c, r, &mut above, &mut left, &mut corner);
-    put_samples(
-        original,
-        g,
-        c,
-        r,
-        &above,
-        &left,
-        corner[0],
-        plan,
-        differences,
-    )
+    on_edges(original, g, c, r, &above, &left, corner[0], differences)
 }

@@ -1,13 +1,11 @@
-// A picture's plan: for each block, row by row, a job by the predictor that comes nearest to it, with its differences; and orders of the jobs.
-mod block;
+// A picture's plan: for each block, row by row, a job by the predictor that comes nearest to it, with its differences.
 mod blocks;
-mod candidate;
-pub mod jobs;
 mod nearest;
-pub mod order;
+mod predict;
 
 use greymap::Greymap;
 use nearest::Choice;
+use picture_blocks::row;
 
 // What was taken for the block of an index.
 fn note(best: Choice, index: u16, taken: &mut [u8], errors: &mut [u32]) {
@@ -33,8 +31,9 @@ fn put_at(
     taken: &mut [u8],
     errors: &mut [u32],
 ) {
-    let best = blocks::put_block(original, g, c, r, plan, differences);
-    note(best, jobs::index(g.across, c, r), taken, errors);
+    let best = blocks::put_block(original, g, c, r, differences);
+    row::put_row(g, c, r, best.number, plan);
+    note(best, picture_blocks::index(g.across, c, r), taken, errors);
 }
 
 // The jobs of a row of blocks.

@@ -5,7 +5,6 @@ use crate::print;
 use crate::rebuild::Rebuilt;
 use greymap::Greymap;
 use numbers::answer::Answer;
-use planner::jobs;
 
 pub fn print_heading(name: &[u8], g: Greymap) {
     print::say(b"Finish-line still ");
@@ -73,7 +72,7 @@ pub fn print_rebuilt(name: &[u8], g: Greymap, r: Rebuilt) {
 // The letters of a row of blocks.
 fn print_row(g: Greymap, taken: &[u8], r: u8) {
     for c in 0..g.across {
-        let k = jobs::index(g.across, c, r) as usize;
+        let k = picture_blocks::index(g.across, c, r) as usize;
         if k < taken.len() {
             let letter = [b' ', legend::letter(legend::line_of(taken[k]))];
             print::say(&letter);

@@ -3,7 +3,7 @@ use crate::page;
 use crate::rebuild;
 use crate::room;
 use greymap::Greymap;
-use planner::order;
+use picture_blocks::order;
 use series::first;
 
 fn by_rows(original: &[f32], g: Greymap, plan: &[u16], differences: &[i16]) {

@@ -3,8 +3,8 @@ use Prim.Native.Nat.{_+_, _*_, _/_, _≤_}
 use native.Mathlib.Nat.{mul-le-mul}
 use native.Mathlib.Omega.{arith}
 use borrow.Author.Needs.{needs}
-use Rattle.planner.proofs.block.place.Statement.{statement}
-use Rattle.planner.proofs.block.place.Tie as tie
+use Rattle.picture_blocks.proofs.block.place.Statement.{statement}
+use Rattle.picture_blocks.proofs.block.place.Tie as tie
 
 small : (s : tie.Start) → (s .args .y + s .args .i / 8) * s .args .width ≤ 65600 * 65535
 small s =

@@ -3,8 +3,8 @@ use Prim.Native.Nat.{_-_}
 use lib.ListN.{length}
 use mathlib.Core.Path.{_≡_}
 use borrow.Author.Needs.{needs}
-use Rattle.planner.proofs.order.in_rows.Statement.{statement}
-use Rattle.planner.proofs.order.in_rows.Tie as tie
+use Rattle.picture_blocks.proofs.order.in_rows.Statement.{statement}
+use Rattle.picture_blocks.proofs.order.in_rows.Tie as tie
 
 abbrev Inv-loop : tie.InvT-loop
 Inv-loop order₀ i₀ order i = length order ≡ length order₀

@@ -3,8 +3,8 @@ use mathlib.Core.Path.{_≡_}
 use Prim.Native.Nat.{_-_}
 use lib.ListN.{length}
 use borrow.Author.Needs.{needs}
-use Rattle.planner.proofs.nearest.put_differences.Statement.{statement}
-use Rattle.planner.proofs.nearest.put_differences.Tie as tie
+use Rattle.picture_blocks.proofs.distance.put_differences.Statement.{statement}
+use Rattle.picture_blocks.proofs.distance.put_differences.Tie as tie
 
 abbrev Inv-loop : tie.InvT-loop
 Inv-loop out block index differences₀ from i₀ differences i = length differences ≡ length differences₀

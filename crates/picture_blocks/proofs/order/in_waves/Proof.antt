@@ -3,8 +3,8 @@ use Prim.Native.Nat.{_-_}
 use lib.ListN.{length}
 use mathlib.Core.Path.{_≡_}
 use borrow.Author.Needs.{needs}
-use Rattle.planner.proofs.order.in_waves.Statement.{statement}
-use Rattle.planner.proofs.order.in_waves.Tie as tie
+use Rattle.picture_blocks.proofs.order.in_waves.Statement.{statement}
+use Rattle.picture_blocks.proofs.order.in_waves.Tie as tie
 
 abbrev Inv-loop : tie.InvT-loop
 Inv-loop g order₀ waves next₀ wave₀ order next wave = length order ≡ length order₀

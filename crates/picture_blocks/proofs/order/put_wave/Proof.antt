@@ -3,8 +3,8 @@ use Prim.Native.Nat.{_-_}
 use lib.ListN.{length}
 use mathlib.Core.Path.{_≡_}
 use borrow.Author.Needs.{needs}
-use Rattle.planner.proofs.order.put_wave.Statement.{statement}
-use Rattle.planner.proofs.order.put_wave.Tie as tie
+use Rattle.picture_blocks.proofs.order.put_wave.Statement.{statement}
+use Rattle.picture_blocks.proofs.order.put_wave.Tie as tie
 
 abbrev Inv-loop : tie.InvT-loop
 Inv-loop g wave at order₀ next₀ r₀ r-end order next r = length order ≡ length order₀

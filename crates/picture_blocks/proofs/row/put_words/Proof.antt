@@ -3,8 +3,8 @@ use mathlib.Core.Path.{_≡_}
 use Prim.Native.Nat.{_-_}
 use lib.ListN.{length}
 use borrow.Author.Needs.{needs}
-use Rattle.planner.proofs.jobs.put_words.Statement.{statement}
-use Rattle.planner.proofs.jobs.put_words.Tie as tie
+use Rattle.picture_blocks.proofs.row.put_words.Statement.{statement}
+use Rattle.picture_blocks.proofs.row.put_words.Tie as tie
 
 abbrev Inv-loop : tie.InvT-loop
 Inv-loop words index plan₀ from i₀ plan i = length plan ≡ length plan₀

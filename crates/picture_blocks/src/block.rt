@@ -1,5 +1,13 @@
 // A block of the picture, as numbers.
-use crate::nearest;
+
+// A whole sample as a number, and 0 for what is none.
+pub fn whole(v: f32) -> u16 {
+    if samples::is_sample(v, 4095) {
+        samples::read_sample(v) as u16
+    } else {
+        0
+    }
+}
 
 // The place of a block's sample in the picture, with i its number in the block.
 fn place(width: u16, x: u16, y: u16, i: u8) -> usize {
@@ -8,7 +16,7 @@ fn place(width: u16, x: u16, y: u16, i: u8) -> usize {
 
 fn sample_at(original: &[f32], at: usize) -> u16 {
     if at < original.len() {
-        nearest::whole(original[at])
+        whole(original[at])
     } else {
         0
     }

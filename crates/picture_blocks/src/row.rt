@@ -1,12 +1,8 @@
 // A block's job: where it stands, and its row of words.
 use crate::candidate::Candidate;
+use crate::index;
 use block_spec::spec::IntraRefSpec;
 use greymap::Greymap;
-
-// A block's index in the plan.
-pub fn index(across: u8, c: u8, r: u8) -> u16 {
-    greymap::product(across, r) + c as u16
-}
 
 // Half of the depth's values: what a block without neighbours starts from.
 fn base(d: u16) -> u16 {

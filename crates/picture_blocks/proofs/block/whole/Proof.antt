@@ -10,8 +10,8 @@ use Rattle.signed.specs.Range.{inside}
 use Rattle.samples.specs.Sample.{reading, Readable}
 use Rattle.samples.proofs.Reading.{reading-small}
 use borrow.Author.Needs.{needs}
-use Rattle.planner.proofs.nearest.whole.Statement.{statement}
-use Rattle.planner.proofs.nearest.whole.Tie as tie
+use Rattle.picture_blocks.proofs.block.whole.Statement.{statement}
+use Rattle.picture_blocks.proofs.block.whole.Tie as tie
 
 is-sample-requires : tie.Need-is-sample-requires
 unfolding inside

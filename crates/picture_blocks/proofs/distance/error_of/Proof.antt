@@ -1,8 +1,8 @@
 -- `error_of` meets its contract: 64 distances are added, and their sum fits. Assumes nothing.
 use Prim.Native.Nat.{_≤_, _-_, _*_}
 use borrow.Author.Needs.{needs}
-use Rattle.planner.proofs.nearest.error_of.Statement.{statement}
-use Rattle.planner.proofs.nearest.error_of.Tie as tie
+use Rattle.picture_blocks.proofs.distance.error_of.Statement.{statement}
+use Rattle.picture_blocks.proofs.distance.error_of.Tie as tie
 
 abbrev Inv-loop : tie.InvT-loop
 Inv-loop out block sum₀ i₀ sum i = (i ≤ 64) × (sum ≤ 65535 * i)

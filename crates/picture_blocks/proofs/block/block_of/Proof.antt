@@ -3,8 +3,8 @@ use Prim.Native.Nat.{_-_}
 use lib.ListN.{length}
 use mathlib.Core.Path.{_≡_}
 use borrow.Author.Needs.{needs}
-use Rattle.planner.proofs.block.block_of.Statement.{statement}
-use Rattle.planner.proofs.block.block_of.Tie as tie
+use Rattle.picture_blocks.proofs.block.block_of.Statement.{statement}
+use Rattle.picture_blocks.proofs.block.block_of.Tie as tie
 
 abbrev Inv-loop : tie.InvT-loop
 Inv-loop original width x y block₀ i₀ block i = length block ≡ 64

@@ -1,5 +1,5 @@
 // Two orders of a plan's jobs.
-use crate::jobs;
+use crate::index;
 use greymap::Greymap;
 
 // The plan's own.
@@ -25,7 +25,7 @@ fn put_block(g: Greymap, wave: u16, r: u8, at: usize, order: &mut [u16]) -> usiz
     if order.len() <= at {
         return at;
     }
-    order[at] = jobs::index(g.across, c as u8, r);
+    order[at] = index(g.across, c as u8, r);
     at + 1
 }
 
