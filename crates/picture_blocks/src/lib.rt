@@ -10,3 +10,19 @@ pub mod row;
 pub fn index(across: u8, c: u8, r: u8) -> u16 {
     greymap::product(across, r) + c as u16
 }
+
+// Its column; where there are no blocks across, 0.
+pub fn column_of(across: u8, index: u16) -> u8 {
+    if across == 0 {
+        return 0;
+    }
+    (index % across as u16 % 256) as u8
+}
+
+// Its row; where there are no blocks across, 0.
+pub fn row_of(across: u8, index: u16) -> u8 {
+    if across == 0 {
+        return 0;
+    }
+    (index / across as u16 % 256) as u8
+}

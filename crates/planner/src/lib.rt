@@ -20,35 +20,21 @@ fn note(best: Choice, index: u16, taken: &mut [u8], errors: &mut [u32]) {
     errors[k] = best.error;
 }
 
-// The job of the block in a column and a row of blocks, and what was taken for it.
+// The job of the block of an index, and what was taken for it.
 fn put_at(
     original: &[f32],
     g: Greymap,
-    c: u8,
-    r: u8,
+    k: u16,
     plan: &mut [u16],
     differences: &mut [i16],
     taken: &mut [u8],
     errors: &mut [u32],
 ) {
+    let c = picture_blocks::column_of(g.across, k);
+    let r = picture_blocks::row_of(g.across, k);
     let best = blocks::put_block(original, g, c, r, differences);
     row::put_row(g, c, r, best.number, plan);
-    note(best, picture_blocks::index(g.across, c, r), taken, errors);
-}
-
-// The jobs of a row of blocks.
-fn put_row(
-    original: &[f32],
-    g: Greymap,
-    r: u8,
-    plan: &mut [u16],
-    differences: &mut [i16],
-    taken: &mut [u8],
-    errors: &mut [u32],
-) {
-    for c in 0..g.across {
-        put_at(original, g, c, r, plan, differences, taken, errors);
-    }
+    note(best, k, taken, errors);
 }
 
 // The whole plan, as far as there is room; for each block also the number of the predictor that was taken, and its error.
@@ -60,7 +46,7 @@ pub fn make(
     taken: &mut [u8],
     errors: &mut [u32],
 ) {
-    for r in 0..g.down {
-        put_row(original, g, r, plan, differences, taken, errors);
+    for k in 0..greymap::product(g.across, g.down) {
+        put_at(original, g, k, plan, differences, taken, errors);
     }
 }

@@ -7,20 +7,23 @@ use Rattle.planner.proofs.make.Statement.{statement}
 use Rattle.planner.proofs.make.Tie as tie
 
 abbrev Inv-loop : tie.InvT-loop
-Inv-loop original g plan₀ differences₀ taken₀ errors₀ r₀ r-end plan differences taken errors r =
+Inv-loop original g plan₀ differences₀ taken₀ errors₀ k₀ k-end plan differences taken errors k =
     (length plan ≡ length plan₀) × (length differences ≡ length differences₀) × (length taken ≡ length taken₀) × (length errors ≡ length errors₀)
 
 abbrev μ-loop : tie.MeasureT-loop
-μ-loop original g plan₀ differences₀ taken₀ errors₀ r₀ r-end plan differences taken errors r = r-end - r
+μ-loop original g plan₀ differences₀ taken₀ errors₀ k₀ k-end plan differences taken errors k = k-end - k
+
+product-requires : tie.Need-product-requires Inv-loop μ-loop
+product-requires c κs = search needs
 
 loop-holds : tie.Need-loop-holds Inv-loop μ-loop
 loop-holds c = search needs
 
-put-row-requires : tie.Need-put-row-requires Inv-loop μ-loop
-put-row-requires c κs = search needs
+put-at-requires : tie.Need-put-at-requires Inv-loop μ-loop
+put-at-requires c κs = search needs
 
-add-r : tie.Need-add-r Inv-loop μ-loop
-add-r c = search needs
+add-k : tie.Need-add-k Inv-loop μ-loop
+add-k c = search needs
 
 loop-less : tie.Need-loop-less Inv-loop μ-loop
 loop-less c = search needs
@@ -49,9 +52,10 @@ make-spec =
     (tie.spec
     Inv-loop
     μ-loop
+    product-requires
     loop-holds
-    put-row-requires
-    add-r
+    put-at-requires
+    add-k
     loop-less
     loop-again
     same-length
