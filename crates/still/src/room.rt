@@ -8,13 +8,6 @@ pub fn picture() -> [f32; 4096]
     [0.0; 4096]
 }
 
-// -1 is no sample: a job that reads what no job wrote before it is refused.
-pub fn unwritten() -> [f32; 4096]
-    ensures { λ r. ⌜ 4096 ≡ length r ⌝ }
-{
-    [-1.0; 4096]
-}
-
 pub fn differences() -> [i16; 4096]
     ensures { λ r. ⌜ 4096 ≡ length r ⌝ }
 {
@@ -26,19 +19,6 @@ pub fn rows() -> [u16; 1024]
     ensures { λ r. ⌜ 1024 ≡ length r ⌝ }
 {
     [0; 1024]
-}
-
-pub fn order() -> [u16; 64]
-    ensures { λ r. ⌜ 64 ≡ length r ⌝ }
-{
-    [0; 64]
-}
-
-// 65535 is no answer's number.
-pub fn answers() -> [u16; 64]
-    ensures { λ r. ⌜ 64 ≡ length r ⌝ }
-{
-    [65535; 64]
 }
 
 // For each block the number of the predictor that was taken, and its error.

@@ -1,56 +1,21 @@
 // A still's plan is made, run in two orders, and told.
-use crate::page;
-use crate::rebuild;
 use crate::room;
 use greymap::Greymap;
-use picture_blocks::order;
+use rebuild::Rebuilt;
 use series::first;
+use still_page::map;
+use still_page::rebuilding;
 
-fn by_rows(original: &[f32], g: Greymap, plan: &[u16], differences: &[i16]) {
-    let mut order = room::order();
-    order::in_rows(&mut order);
-    let rebuilt = rebuild::rebuild(original, g, plan, &order, differences);
-    page::print_rebuilt(b"     row by row          ", g, rebuilt);
+fn tell_rebuilt(name: &[u8], g: Greymap, r: Rebuilt) {
+    rebuilding::print_rebuilt(name, g, r.answer, r.done, r.equal);
 }
 
-fn by_waves(original: &[f32], g: Greymap, plan: &[u16], differences: &[i16]) {
-    let mut order = room::order();
-    order::in_waves(g, &mut order);
-    let rebuilt = rebuild::rebuild(original, g, plan, &order, differences);
-    page::print_rebuilt(b"     as a wavefront      ", g, rebuilt);
-}
-
-// The page of a plan.
-fn tell(
-    name: &[u8],
-    original: &[f32],
-    g: Greymap,
-    plan: &[u16],
-    differences: &[i16],
-    taken: &[u8],
-    errors: &[u32],
-) {
-    page::print_heading(name, g);
-    page::print_table(taken, errors);
-    page::print_rebuilding();
-    by_rows(original, g, plan, differences);
-    by_waves(original, g, plan, differences);
-    page::print_map(g, taken);
-}
-
-// The plan is made in a room, and its page printed.
-fn in_room(
-    name: &[u8],
-    original: &[f32],
-    g: Greymap,
-    plan: &mut [u16],
-    differences: &mut [i16],
-    taken: &mut [u8],
-    errors: &mut [u32],
-) {
-    planner::make(original, g, plan, differences, taken, errors);
-    let jobs = first::bytes(taken, g.jobs());
-    tell(name, original, g, plan, differences, jobs, errors);
+// The plan is run row by row and as a wavefront.
+fn tell_runs(original: &[f32], g: Greymap, plan: &[u16], differences: &[i16]) {
+    let rows = rebuild::in_rows(original, g, plan, differences);
+    tell_rebuilt(b"     row by row          ", g, rows);
+    let waves = rebuild::in_waves(original, g, plan, differences);
+    tell_rebuilt(b"     as a wavefront      ", g, waves);
 }
 
 pub fn show(name: &[u8], original: &[f32], g: Greymap) {
@@ -58,8 +23,7 @@ pub fn show(name: &[u8], original: &[f32], g: Greymap) {
     let mut differences = room::differences();
     let mut taken = room::taken();
     let mut errors = room::errors();
-    in_room(
-        name,
+    planner::make(
         original,
         g,
         &mut plan,
@@ -67,4 +31,8 @@ pub fn show(name: &[u8], original: &[f32], g: Greymap) {
         &mut taken,
         &mut errors,
     );
+    let jobs = first::bytes(&taken, g.jobs());
+    still_page::print_top(name, g, jobs, &errors);
+    tell_runs(original, g, &plan, &differences);
+    map::print_map(g, jobs);
 }

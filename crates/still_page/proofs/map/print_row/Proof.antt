@@ -1,8 +1,8 @@
 -- `print_row` meets its contract: it ends. Assumes nothing.
 use Prim.Native.Nat.{_-_}
 use borrow.Author.Needs.{needs}
-use Rattle.still.proofs.page.print_row.Statement.{statement}
-use Rattle.still.proofs.page.print_row.Tie as tie
+use Rattle.still_page.proofs.map.print_row.Statement.{statement}
+use Rattle.still_page.proofs.map.print_row.Tie as tie
 
 abbrev Inv-loop : tie.InvT-loop
 Inv-loop g taken r c₀ t7 c-end c = Unit

@@ -2,8 +2,8 @@
 use Prim.Native.Nat.{_≤_, _-_}
 use lib.ListN.{length}
 use borrow.Author.Needs.{needs}
-use Rattle.still.proofs.rebuild.count_equal.Statement.{statement}
-use Rattle.still.proofs.rebuild.count_equal.Tie as tie
+use Rattle.rebuild.proofs.count.count_equal.Statement.{statement}
+use Rattle.rebuild.proofs.count.count_equal.Tie as tie
 
 abbrev Inv-loop : tie.InvT-loop
 Inv-loop a b n₀ i₀ n i = (i ≤ length a) × (n ≤ i)

@@ -1,8 +1,8 @@
 -- `print_map` meets its contract: it ends. Assumes nothing.
 use Prim.Native.Nat.{_-_}
 use borrow.Author.Needs.{needs}
-use Rattle.still.proofs.page.print_map.Statement.{statement}
-use Rattle.still.proofs.page.print_map.Tie as tie
+use Rattle.still_page.proofs.map.print_map.Statement.{statement}
+use Rattle.still_page.proofs.map.print_map.Tie as tie
 
 abbrev Inv-loop : tie.InvT-loop
 Inv-loop g taken r₀ t5 r-end r = Unit

@@ -1,8 +1,8 @@
 -- `error_of` meets its contract: 64 errors are added, and their sum fits. Assumes nothing.
 use Prim.Native.Nat.{_≤_, _-_, _*_}
 use borrow.Author.Needs.{needs}
-use Rattle.still.proofs.counts.error_of.Statement.{statement}
-use Rattle.still.proofs.counts.error_of.Tie as tie
+use Rattle.still_page.proofs.counts.error_of.Statement.{statement}
+use Rattle.still_page.proofs.counts.error_of.Tie as tie
 
 abbrev Inv-loop : tie.InvT-loop
 Inv-loop taken errors line sum₀ i₀ sum i = (i ≤ 64) × (sum ≤ 4294967295 * i)

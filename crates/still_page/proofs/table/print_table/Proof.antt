@@ -1,8 +1,8 @@
 -- `print_table` meets its contract: it ends. Assumes nothing.
 use Prim.Native.Nat.{_-_}
 use borrow.Author.Needs.{needs}
-use Rattle.still.proofs.page.print_table.Statement.{statement}
-use Rattle.still.proofs.page.print_table.Tie as tie
+use Rattle.still_page.proofs.table.print_table.Statement.{statement}
+use Rattle.still_page.proofs.table.print_table.Tie as tie
 
 abbrev Inv-loop : tie.InvT-loop
 Inv-loop taken errors line₀ line = Unit

@@ -1,8 +1,8 @@
 -- `blocks_of` meets its contract: 64 blocks are counted. Assumes nothing.
 use Prim.Native.Nat.{_≤_, _-_}
 use borrow.Author.Needs.{needs}
-use Rattle.still.proofs.counts.blocks_of.Statement.{statement}
-use Rattle.still.proofs.counts.blocks_of.Tie as tie
+use Rattle.still_page.proofs.counts.blocks_of.Statement.{statement}
+use Rattle.still_page.proofs.counts.blocks_of.Tie as tie
 
 abbrev Inv-loop : tie.InvT-loop
 Inv-loop taken line n₀ i₀ n i = (i ≤ 64) × (n ≤ i)
