@@ -3,3 +3,4 @@ pub mod Lines
 pub mod Words
 pub mod Sides
 pub mod Tested
+pub mod Made

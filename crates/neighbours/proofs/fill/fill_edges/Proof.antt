@@ -1,46 +1,20 @@
 -- `fill_edges` meets its contract: the corner, and both neighbours, each by its places in the plane's list. Assumes nothing.
 use borrow.Author.Needs.{needs, sfits-of}
-use mathlib.Core.Path.{_≡_, refl, sym, _∙_, ap, subst}
-use mathlib.Core.Bool.{true}
-use mathlib.Core.List.{List}
-use Prim.Native.Nat.{ℕ, _*_, _<_}
-use lib.IntN.{ℤ}
-use lib.Ieee.{Float}
-use lib.ListN.{length}
+use mathlib.Core.Path.{_≡_, refl, _∙_, ap}
 use mir.Syntax.{w32}
 use mir.Val.{toZ, ofZ}
 use Rattle.signed.proofs.Bound.{back}
-use Rattle.lists.specs.Fill.{filled}
-use Rattle.lists.proofs.Fill.{filled-same}
-use Rattle.samples.specs.Sample.{Readable}
 use Rattle.edge_line.proofs.Onward.{edge-cleared}
-use Rattle.block_spec.specs.declared.spec.IntraRefSpec.{IntraRefSpec}
-use Rattle.block_spec.specs.Behind.{Behind, aboveBehind, leftBehind, cornerBehind}
+use Rattle.block_spec.specs.Behind.{aboveBehind, leftBehind, cornerBehind}
 use Rattle.block_spec.proofs.Placed.{first-fits}
-use Rattle.neighbours.specs.declared.side.Side.{Side}
 use Rattle.neighbours.specs.Spot.{spotOf, spotValue}
-use Rattle.neighbours.specs.Side.{sideAt, sideValue, SideLies, aboveSide, leftSide}
+use Rattle.neighbours.specs.Side.{aboveSide, leftSide}
 use Rattle.neighbours.specs.Values.{valueOf}
 use Rattle.neighbours.proofs.Sides.{above-lies, left-lies, corner-lies, above-value, left-value}
+use Rattle.neighbours.proofs.Made.{asked, gives}
 use Rattle.neighbours.proofs.Tested.{above-readable, left-readable, corner-read, readable}
 use Rattle.neighbours.proofs.fill.fill_edges.Statement.{statement}
 use Rattle.neighbours.proofs.fill.fill_edges.Tie as tie
-
--- a neighbour that the code has made: what its fill asks, and what it gives
-module _ (plane : List Float) (made side : Side) (is : made ≡ side) where
-  abbrev Asked : Side → Type 0
-  Asked x = SideLies (length plane) x × (x .there ≡ true → (c : ℕ) → c < 2 * x .bs → Readable (sideAt plane x c))
-
-  asked : Asked side → Asked made
-  asked = subst Asked (sym is)
-
-  gives : (W : ℕ) (s : IntraRefSpec) (spare spared : ℤ) (behind : ℕ → Behind) (xs : List ℤ) → side .bs ≡ s .b → spare ≡ spared
-      → ((c : ℕ) → sideValue plane side spared c ≡ valueOf W plane (behind c))
-      → filled (2 * made .bs) (sideValue plane made spare) xs ≡ filled (2 * s .b) (λ c. valueOf W plane (behind c)) xs
-  gives W s spare spared behind xs size e values =
-      (λ j. filled (2 * is j .bs) (sideValue plane (is j) (e j)) xs)
-      ∙ (λ j. filled (2 * size j) (sideValue plane side spared) xs)
-      ∙ filled-same (2 * s .b) _ _ xs (λ c h. values c)
 
 -- the corner's number
 corner-is : (c : tie.After-value-at) → let t = c .before .before .before in
