@@ -8,7 +8,7 @@ use Rattle.edge_filter.specs.Filter.{edge, filtered}
 use Rattle.zones.specs.Zones.{zone1, zone2, zone3}
 use Rattle.setting.specs.Steps.{step}
 use Rattle.setting.specs.Setting.{strengthAbove, strengthLeft, limitAbove, limitLeft}
-use Rattle.setting.specs.Corner.{filteredCorner}
+use Rattle.strength.specs.Corner.{filteredCorner}
 use Rattle.setting.specs.declared.Setting.{Setting}
 
 -- n entries above a block of w by h, filtered

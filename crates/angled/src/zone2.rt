@@ -55,7 +55,7 @@ pub fn z2_into(
     ensures { λ _. ⌜ now (out .exit) ≡ block bs bs (z2At bs bs m set (now (above .entry)) (now (left .entry)) corner) (now (out .entry)) ⌝ }
 {
     let f = set.flags;
-    let k = setting::corner::corner_of(f.edge_filter, bs + bs, left[0], corner, above[0]);
+    let k = strength::corner::corner_of(f.edge_filter, bs + bs, left[0], corner, above[0]);
     let mut pad = [0i32; 72];
     let mut top = [0i32; 72];
     let mut side = [0i32; 72];

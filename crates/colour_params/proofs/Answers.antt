@@ -13,7 +13,7 @@ use Rattle.numbers.specs.declared.answer.Answer.{Answer}
 use Rattle.numbers.specs.declared.answer.Answer.the-variants.{Done, BadDepth}
 use Rattle.signed.proofs.Range.{and-both}
 use Rattle.refusals.specs.Ladder.{Rule, ladder}
-use Rattle.refusals.proofs.Ladder.{all-kept}
+use Rattle.refusals.proofs.Ladder.{all-kept, segment-kept, segment-broken}
 use Rattle.colour_terms.specs.Reference.{isSizes, isHeld}
 use Rattle.colour_terms.specs.Terms.{entry}
 use Rattle.colour_terms.proofs.Granted.{sizes-all, held-all}
@@ -22,7 +22,6 @@ use Rattle.colour_sums.specs.Sum.{Laid}
 use Rattle.colour_sums.specs.declared.window.Window.{Window}
 use Rattle.colour_params.specs.Rules.{areReferences, windowRules, sampleRules, deriveRules, deriveAnswer}
 use Rattle.colour_params.specs.Derived.{zeros, listParams, answered, sampled, derived, written}
-use Rattle.colour_params.proofs.Later.{later-refused, later-done}
 
 pub laid : (w : Window) (luma chroma : List ℤ) → areReferences w (length luma) (length chroma) ≡ true → Laid w luma chroma
 unfolding areReferences
@@ -52,12 +51,12 @@ module _ (luma chroma : List ℤ) (w : Window) (direction D : ℕ) (room : Bool)
 
   pub answer-window : isDepth D ≡ true → isDone (ladder rules) ≡ false → deriveAnswer luma chroma w direction D room ≡ ladder rules
   unfolding deriveAnswer
-  answer-window e n = simp e (later-refused rules (sampleRules (entry luma) (entry chroma) w (theColour direction) D) n)
+  answer-window e n = simp e (sym (segment-broken rules (sampleRules (entry luma) (entry chroma) w (theColour direction) D) tt n refl))
 
   pub answer-samples : isDepth D ≡ true → ladder rules ≡ Done
       → deriveAnswer luma chroma w direction D room ≡ ladder (sampleRules (entry luma) (entry chroma) w (theColour direction) D)
-  unfolding deriveAnswer
-  answer-samples e n = simp e (later-done rules (sampleRules (entry luma) (entry chroma) w (theColour direction) D) n tt)
+  unfolding deriveAnswer isDone
+  answer-samples e n = simp e (segment-kept rules (sampleRules (entry luma) (entry chroma) w (theColour direction) D) tt (ap isDone n) refl)
 
   -- what is returned
   pub derived-refused : (a : Answer) → deriveAnswer luma chroma w direction D room ≡ a → isDone a ≡ false

@@ -1,5 +1,4 @@
--- Laws of the shift, of the samples and of the refusals.
-pub mod Reach
-pub mod Later
+-- Laws of a window's shifted sums, of the samples and of the refusals.
+pub mod Window
 pub mod Samples
 pub mod Answers

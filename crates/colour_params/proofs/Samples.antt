@@ -13,8 +13,9 @@ use Rattle.elimination.specs.declared.Params.{Params}
 use Rattle.colour_sums.specs.Sum.{sumsOf, countOf, isReadable}
 use Rattle.colour_sums.specs.declared.window.Window.{Window}
 use Rattle.colour_sums.proofs.Count.{none-readable, none-summed}
-use Rattle.colour_params.specs.Shift.{flat, paramsOf}
-use Rattle.colour_params.specs.Rules.{isSmall, sampleRules}
+use Rattle.colour_solve.specs.Shift.{flat, paramsOf}
+use Rattle.colour_solve.specs.Small.{isSmall}
+use Rattle.colour_params.specs.Rules.{sampleRules}
 use Rattle.colour_params.specs.Derived.{zeros, windowParams, answered, sampled}
 use Rattle.colour_params.specs.declared.Derived.{Derived}
 

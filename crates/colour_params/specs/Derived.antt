@@ -15,7 +15,7 @@ use Rattle.elimination.specs.declared.Params.{Params}
 use Rattle.colour_terms.specs.Terms.{entry}
 use Rattle.colour_sums.specs.Sum.{sumsOf, countOf}
 use Rattle.colour_sums.specs.declared.window.Window.{Window}
-use Rattle.colour_params.specs.Shift.{paramsOf}
+use Rattle.colour_solve.specs.Shift.{paramsOf}
 use Rattle.colour_params.specs.Rules.{sampleRules, deriveAnswer}
 use Rattle.colour_params.specs.declared.Derived.{Derived}
 

@@ -1,4 +1,3 @@
 -- What `derive_params` tests, and what it gives, all to be believed.
-pub mod Shift
 pub mod Rules
 pub mod Derived

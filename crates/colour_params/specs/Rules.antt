@@ -2,7 +2,6 @@
 use mathlib.Core.Bool.{Bool, _&&_}
 use mathlib.Core.List.{List, [], _∷_, _++_}
 use Prim.Native.Nat.{ℕ}
-use lib.Dec.{leb}
 use lib.IntN.{ℤ}
 use lib.ListN.{length}
 use Rattle.numbers.specs.Colour.{isColour, theColour}
@@ -13,21 +12,14 @@ use Rattle.numbers.specs.declared.colour.ColourDirection.{ColourDirection}
 use Rattle.refusals.specs.Ladder.{Rule, _else_, ladder}
 use Rattle.colour_terms.specs.Reference.{isSizes, isHeld, isLines}
 use Rattle.colour_terms.specs.Terms.{entry}
-use Rattle.colour_samples.specs.Nine.{mostSum}
-use Rattle.colour_samples.specs.declared.nine.Nine.{Nine}
 use Rattle.colour_sums.specs.Sum.{sumsOf, isReadable}
 use Rattle.colour_sums.specs.declared.window.Window.{Window}
+use Rattle.colour_solve.specs.Small.{isSmall}
 
 -- 11, of luma's list and chroma's, with so many entries
 unfoldable pub areReferences : Window → ℕ → ℕ → Bool
 areReferences w luma chroma =
     isSizes (w .«ref_width») (w .«ref_height») && (isHeld (w .«ref_height») luma && isHeld (w .«ref_height») chroma)
-
--- "one of the nine colour sums exceeds 2,147,483,647"
-unfoldable pub isSmall : Nine → Bool
-isSmall s =
-    leb (s .a00) mostSum && leb (s .a01) mostSum && leb (s .a02) mostSum && leb (s .a11) mostSum && leb (s .a12) mostSum
-    && leb (s .a22) mostSum && leb (s .y0) mostSum && leb (s .y1) mostSum && leb (s .y2) mostSum
 
 -- 10, 11, 12 and 9, of lists with so many entries. `room` says that the list which takes the parameters has three entries, and is true where they are
 -- returned

@@ -1,8 +1,6 @@
 // Colour parameters from a reference window (document 01, Colour parameters): `derive_params` takes any input and tests 2, 10, 11, 12, 9, 13, 14 in
 // that order.
 mod rules;
-mod shift;
-mod solve;
 
 use colour_samples::sample::DepthTerms;
 use colour_sums::window;
@@ -65,16 +63,16 @@ fn sampled(
 {
     let n = window::count_of(w);
     if n == 0 {
-        return accepted(solve::flat());
+        return accepted(colour_solve::flat());
     }
     let g = window::gather(luma, chroma, w, n, direction, DepthTerms::of(depth, d));
     let Gathered::Sums(s) = g else {
         return refused(Answer::BadColourSample);
     };
-    if !solve::is_small(s) {
+    if !colour_solve::is_small(s) {
         return refused(Answer::SumTooLarge);
     }
-    accepted(solve::params_of(s, n, depth, d))
+    accepted(colour_solve::params_of(s, n, depth, d))
 }
 
 // The parameters, or a refusal; `room` says whether the caller's list can take them.

@@ -13,7 +13,7 @@ use Rattle.refusals.specs.Ladder.{_else_}
 use Rattle.refusals.proofs.Ladder.{all-kept, kept-append}
 use Rattle.block_spec.specs.declared.spec.IntraRefSpec.{IntraRefSpec}
 use Rattle.edges.specs.Rules.{outputsLong, refsRules, refsAnswer}
-use Rattle.neighbours.specs.Read.{allRead, readRules}
+use Rattle.sides.specs.Read.{allRead, readRules}
 use Rattle.block_spec.specs.Rules.{sizeRules, placeRules}
 use Rattle.block_spec.specs.Placed.{Placed}
 use Rattle.block_spec.proofs.Placed.{standing, placed}

@@ -13,8 +13,8 @@ use Rattle.direct_calls.specs.Given.{Given}
 use Rattle.edge_line.specs.Edge.{entryOf}
 use Rattle.block_spec.specs.declared.spec.IntraRefSpec.{IntraRefSpec}
 use Rattle.block_spec.specs.Behind.{aboveBehind, leftBehind}
-use Rattle.neighbours.specs.Read.{allRead}
-use Rattle.neighbours.specs.Values.{valueOf}
+use Rattle.sides.specs.Read.{allRead}
+use Rattle.sides.specs.Values.{valueOf}
 use Rattle.edges.specs.Refs.{Lists, refsOf}
 use Rattle.block_spec.specs.Placed.{Placed}
 use Rattle.edges.proofs.Inside.{built-in-range}

@@ -9,7 +9,7 @@ use Rattle.lists.specs.Fill.{filled}
 use Rattle.refusals.specs.Promise.{lent, Promise}
 use Rattle.block_spec.specs.declared.spec.IntraRefSpec.{IntraRefSpec}
 use Rattle.block_spec.specs.Behind.{cornerBehind}
-use Rattle.neighbours.specs.Values.{valueOf, aboveOf, leftOf}
+use Rattle.sides.specs.Values.{valueOf, aboveOf, leftOf}
 use Rattle.edges.specs.Rules.{refsAnswer}
 
 abbrev pub cornerOf : List Float → ℕ → IntraRefSpec → List ℤ → List ℤ

@@ -11,7 +11,7 @@ use Rattle.numbers.specs.declared.answer.Answer.the-variants.{BadPlane, ShortLi
 use Rattle.refusals.specs.Ladder.{Rule, _else_, ladder}
 use Rattle.block_spec.specs.declared.spec.IntraRefSpec.{IntraRefSpec}
 use Rattle.block_spec.specs.Rules.{isPlane, sizeRules, placeRules}
-use Rattle.neighbours.specs.Read.{readRules}
+use Rattle.sides.specs.Read.{readRules}
 
 -- "an edge output under 128"; the corner's output has one entry
 unfoldable pub outputsLong : ℕ → ℕ → ℕ → Bool

@@ -9,8 +9,8 @@ ghost use lib.ListN.{length, getD};
 ghost use Rattle.signed.specs.Range.{inside, Edge};
 ghost use Rattle.lists.specs.Fill.{tab};
 ghost use Rattle.lists.specs.Block.{sample};
-ghost use Rattle.interpolation.specs.Interp.{between as at, Taps};
-ghost use Rattle.interpolation.specs.Quads.{tableOf, tap, tapped};
+ghost use Rattle.taps.specs.Interp.{between as at, Taps};
+ghost use Rattle.taps.specs.Quads.{tableOf, tap, tapped};
 
 // Four samples.
 fn between_quad(list: &[i32], filters: &[[i32; 4]; 32], f: usize, m: i32, row: &mut [f32])

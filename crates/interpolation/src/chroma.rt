@@ -1,5 +1,5 @@
 // Rows by two taps: sample i is from the entries i and i + 1 of a list.
-use crate::value;
+use taps::value;
 ghost use mathlib.Core.Path.{_≡_};
 ghost use mathlib.Core.Bool.{true};
 ghost use Prim.Native.Nat.{_≤_, _+_};
@@ -8,7 +8,7 @@ ghost use lib.ListN.{length, getD};
 ghost use Rattle.signed.specs.Range.{inside, Edge};
 ghost use Rattle.lists.specs.Fill.{tab};
 ghost use Rattle.lists.specs.Block.{sample};
-ghost use Rattle.interpolation.specs.Interp.{chroma};
+ghost use Rattle.taps.specs.Interp.{chroma};
 
 // Sample i.
 fn chroma_at(list: &[i32], i: usize, g: i32, f: i32, m: i32) -> f32

@@ -1,5 +1,5 @@
 // Rows by four taps: sample i is from the entries i .. i + 3 of a list. A row of four has its own way, without a loop.
-use crate::value;
+use taps::value;
 ghost use mathlib.Core.Path.{_≡_};
 ghost use mathlib.Core.Bool.{true};
 ghost use Prim.Native.Nat.{_≤_, _+_};
@@ -8,7 +8,7 @@ ghost use lib.ListN.{length, getD};
 ghost use Rattle.signed.specs.Range.{inside, Edge};
 ghost use Rattle.lists.specs.Fill.{tab};
 ghost use Rattle.lists.specs.Block.{sample};
-ghost use Rattle.interpolation.specs.Interp.{luma, Taps};
+ghost use Rattle.taps.specs.Interp.{luma, Taps};
 
 // Sample i.
 fn luma_at(list: &[i32], i: usize, f0: i32, f1: i32, f2: i32, f3: i32, m: i32) -> f32

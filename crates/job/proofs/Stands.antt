@@ -9,7 +9,7 @@ use Rattle.numbers.specs.declared.answer.Answer.the-variants.{BadMode, NoDiffer
 use Rattle.refusals.specs.Ladder.{_else_, ladder}
 use Rattle.refusals.proofs.Ladder.{all-of, kept-append, ladder-append}
 use Rattle.block_spec.specs.Rules.{sizeRules, placeRules}
-use Rattle.neighbours.specs.Read.{readRules}
+use Rattle.sides.specs.Read.{readRules}
 use Rattle.block_spec.specs.Placed.{Standing}
 use Rattle.block_spec.proofs.Placed as edges
 use Rattle.job.specs.Row.{Row, specOf}

@@ -10,7 +10,7 @@ use Rattle.numbers.specs.declared.answer.Answer.{Answer}
 use Rattle.numbers.specs.declared.answer.Answer.the-variants.{BadMode, NoDifferences}
 use Rattle.refusals.specs.Ladder.{Rule, _else_, ladder}
 use Rattle.block_spec.specs.Rules.{sizeRules, placeRules}
-use Rattle.neighbours.specs.Read.{readRules}
+use Rattle.sides.specs.Read.{readRules}
 use Rattle.job.specs.Row.{Row, word, specOf, startOf}
 use Rattle.job.specs.Mode.{isMode}
 

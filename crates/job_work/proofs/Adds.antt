@@ -16,7 +16,7 @@ use Rattle.signed.proofs.Range.{inside-abs, inside-pos, pos-inside}
 use Rattle.lists.specs.Block.{sample, block}
 use Rattle.lists.proofs.Block.{block-length, block-at}
 use Rattle.direct_calls.proofs.Accepted.{depth-most}
-use Rattle.interpolation.specs.Interp.{clip}
+use Rattle.taps.specs.Interp.{clip}
 use Rattle.job.specs.Touches.{blockAt}
 use Rattle.job.specs.declared.job.Job.{Job}
 use Rattle.job_work.specs.Written.{predictedAt, writtenAt}

@@ -15,7 +15,7 @@ use Rattle.lists.proofs.Fill.{length-tab, filled-all, filled-at}
 use Rattle.direct_calls.specs.Given.{Given}
 use Rattle.edge_line.specs.Edge.{entryOf}
 use Rattle.block_spec.specs.Behind.{aboveBehind, leftBehind, cornerBehind}
-use Rattle.neighbours.specs.Values.{valueOf, aboveOf, leftOf}
+use Rattle.sides.specs.Values.{valueOf, aboveOf, leftOf}
 use Rattle.edges.specs.Refs.{cornerOf}
 use Rattle.block_spec.proofs.Placed.{small}
 use Rattle.edges.proofs.Given.{built-given}

@@ -19,10 +19,10 @@ use Rattle.samples.specs.Sample.{isSample, reading}
 use Rattle.edge_line.specs.Edge.{entryOf}
 use Rattle.edge_line.proofs.Every.{every-same}
 use Rattle.block_spec.specs.Behind.{Behind, place, number, aboveBehind, leftBehind, cornerBehind}
-use Rattle.neighbours.specs.Read.{behindInRange, edgeRead, allRead, readRules}
-use Rattle.neighbours.specs.Values.{valueOf}
+use Rattle.sides.specs.Read.{behindInRange, edgeRead, allRead, readRules}
+use Rattle.sides.specs.Values.{valueOf}
 use Rattle.block_spec.specs.declared.spec.IntraRefSpec.{IntraRefSpec}
-use Rattle.interpolation.specs.Interp.{clip}
+use Rattle.taps.specs.Interp.{clip}
 use Rattle.job.specs.Row.{Row, word, specOf}
 use Rattle.job.specs.Rules.{stands, rowAnswer, jobAnswer}
 use Rattle.job.specs.Job.{jobOf}

@@ -10,7 +10,7 @@ use Rattle.row_words.specs.Mode.{DeltaInRange}
 use Rattle.numbers.specs.declared.answer.Answer.{Answer}
 use Rattle.refusals.specs.Ladder.{ladder}
 use Rattle.refusals.specs.Promise.{lent}
-use Rattle.neighbours.specs.Read.{allRead, readRules}
+use Rattle.sides.specs.Read.{allRead, readRules}
 use Rattle.block_spec.specs.Placed.{Placed}
 use Rattle.job.specs.Touches.{blockAt}
 use Rattle.job.specs.declared.job.Job.{Job}

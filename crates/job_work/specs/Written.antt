@@ -10,9 +10,9 @@ use Rattle.lists.specs.Fill.{tab}
 use Rattle.lists.specs.Block.{sample}
 use Rattle.edge_line.specs.Edge.{entryOf}
 use Rattle.block_spec.specs.Behind.{aboveBehind, leftBehind, cornerBehind}
-use Rattle.neighbours.specs.Values.{valueOf}
+use Rattle.sides.specs.Values.{valueOf}
 use Rattle.block_spec.specs.declared.spec.IntraRefSpec.{IntraRefSpec}
-use Rattle.interpolation.specs.Interp.{clip}
+use Rattle.taps.specs.Interp.{clip}
 use Rattle.job.specs.declared.job.Job.{Job}
 use Rattle.modes.specs.Predictor.{predictorOf}
 

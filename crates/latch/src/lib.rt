@@ -5,7 +5,7 @@ pub mod jobs;
 
 use block_spec::spec::IntraRefSpec;
 ghost use Rattle.paeth.specs.Paeth.{paethAt};
-ghost use Rattle.smooth.specs.Smooth.{smoothAt, smoothVAt, smoothHAt};
+ghost use Rattle.smooth_spec.specs.Smooth.{smoothAt, smoothVAt, smoothHAt};
 ghost use Rattle.directional.specs.Words.{isNamed, directed};
 ghost use Rattle.latch.specs.Exported.{spec, lists, BuiltC, PredictedC, PredictedByC};
 

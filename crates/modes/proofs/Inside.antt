@@ -14,7 +14,7 @@ use Rattle.direct_calls.specs.Given.{Given}
 use Rattle.directional.specs.Words.{settingOf}
 use Rattle.directional.proofs.Inside.{directional-inside}
 use Rattle.paeth.proofs.Laws.{paeth-inside}
-use Rattle.smooth.proofs.Laws.{smoothV-inside, smoothH-inside, smooth-inside}
+use Rattle.smooth_spec.proofs.Laws.{smoothV-inside, smoothH-inside, smooth-inside}
 use Rattle.job.specs.declared.job.Job.{Job}
 use Rattle.modes.specs.Predictor.{predictorBy, predictorOf}
 

@@ -3,7 +3,7 @@ use Rattle.row_words.specs.declared.mode.Mode.{Mode}
 use Rattle.row_words.specs.declared.mode.Mode.the-variants.{Paeth, Smooth, SmoothV, SmoothH, Directional}
 use Rattle.direct_calls.specs.Direct.{Predictor}
 use Rattle.paeth.specs.Paeth.{paethAt}
-use Rattle.smooth.specs.Smooth.{smoothAt, smoothVAt, smoothHAt}
+use Rattle.smooth_spec.specs.Smooth.{smoothAt, smoothVAt, smoothHAt}
 use Rattle.directional.specs.Words.{turnedBy}
 use Rattle.job.specs.declared.job.Job.{Job}
 

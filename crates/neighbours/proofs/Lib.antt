@@ -1,6 +1,2 @@
--- Laws of the neighbours' places and of the samples behind the entries.
-pub mod Lines
-pub mod Words
-pub mod Sides
-pub mod Tested
+-- What a fill asks and gives.
 pub mod Made

@@ -11,9 +11,9 @@ use Rattle.lists.proofs.Fill.{filled-same}
 use Rattle.samples.specs.Sample.{Readable}
 use Rattle.block_spec.specs.declared.spec.IntraRefSpec.{IntraRefSpec}
 use Rattle.block_spec.specs.Behind.{Behind}
-use Rattle.neighbours.specs.declared.side.Side.{Side}
-use Rattle.neighbours.specs.Side.{sideAt, sideValue, SideLies}
-use Rattle.neighbours.specs.Values.{valueOf}
+use Rattle.sides.specs.declared.Side.{Side}
+use Rattle.sides.specs.Side.{sideAt, sideValue, SideLies}
+use Rattle.sides.specs.Values.{valueOf}
 
 module _ (plane : List Float) (made side : Side) (is : made ≡ side) where
   abbrev pub Asked : Side → Type 0

@@ -1,10 +1,9 @@
 // The edges and the corner of a block whose samples were tested (document 01, From samples to edges).
-use crate::side;
-use crate::side::Side;
-use crate::side::Spot;
 use block_spec::spec::IntraRefSpec;
 use edge_line::edge;
 use numbers::size::Size;
+use sides::Side;
+use sides::Spot;
 ghost use mathlib.Core.Path.{_≡_};
 ghost use mathlib.Core.Bool.{true};
 ghost use Prim.Native.Nat.{ℕ, _*_, _≤_, _<_};
@@ -14,10 +13,10 @@ ghost use Rattle.lists.specs.Fill.{filled};
 ghost use Rattle.samples.specs.Sample.{Readable};
 ghost use Rattle.edge_line.specs.Onward.{onward};
 ghost use Rattle.block_spec.specs.Behind.{cornerBehind};
-ghost use Rattle.neighbours.specs.Spot.{spotValue, SpotLies, SpotReadable};
-ghost use Rattle.neighbours.specs.Side.{sideAt, sideValue, SideLies};
-ghost use Rattle.neighbours.specs.Read.{allRead};
-ghost use Rattle.neighbours.specs.Values.{valueOf, aboveOf, leftOf};
+ghost use Rattle.sides.specs.Spot.{spotValue, SpotLies, SpotReadable};
+ghost use Rattle.sides.specs.Side.{sideAt, sideValue, SideLies};
+ghost use Rattle.sides.specs.Read.{allRead};
+ghost use Rattle.sides.specs.Values.{valueOf, aboveOf, leftOf};
 ghost use Rattle.block_spec.specs.Placed.{Placed};
 
 // The number that an entry is.
@@ -75,18 +74,18 @@ pub fn fill_edges(
     requires { ⌜ (128 ≤ length (now above)) × (128 ≤ length (now left)) ⌝ }
     ensures { λ r. ⌜ (now (above .exit) ≡ aboveOf (now (plane .entry)) width s (now (above .entry))) × (now (left .exit) ≡ leftOf (now (plane .entry)) width s (now (left .entry))) × (r ≡ valueOf width (now (plane .entry)) (cornerBehind s)) ⌝ }
 {
-    let corner = value_at(plane, side::corner_at(width, s));
+    let corner = value_at(plane, sides::corner_at(width, s));
     fill_side(
         plane,
-        side::above_of(width, s),
-        side::above_spare(s, corner),
+        sides::above_of(width, s),
+        sides::above_spare(s, corner),
         above,
     );
     clear_rest(s.b, above);
     fill_side(
         plane,
-        side::left_of(width, s),
-        side::left_spare(s, corner),
+        sides::left_of(width, s),
+        sides::left_spare(s, corner),
         left,
     );
     clear_rest(s.b, left);

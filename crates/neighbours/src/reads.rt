@@ -1,18 +1,17 @@
 // The test of the samples that `build_refs` and a job read, 8 (document 01, Refusal numbers): those behind the entries of both edges, and behind the corner.
-use crate::side;
-use crate::side::Side;
-use crate::side::Spot;
 use block_spec::spec::IntraRefSpec;
 use edge_line::edge;
+use sides::Side;
+use sides::Spot;
 ghost use mathlib.Core.Path.{_≡_};
 ghost use mathlib.Core.Bool.{true};
 ghost use lib.IntN.{pos};
 ghost use lib.ListN.{length};
 ghost use Rattle.numbers.specs.Depth.{most};
 ghost use Rattle.signed.specs.Range.{inside};
-ghost use Rattle.neighbours.specs.Spot.{spotInRange, SpotLies};
-ghost use Rattle.neighbours.specs.Side.{sideRead, SideLies};
-ghost use Rattle.neighbours.specs.Read.{allRead};
+ghost use Rattle.sides.specs.Spot.{spotInRange, SpotLies};
+ghost use Rattle.sides.specs.Side.{sideRead, SideLies};
+ghost use Rattle.sides.specs.Read.{allRead};
 ghost use Rattle.block_spec.specs.Placed.{Placed};
 
 // Whether what stands behind an entry is a number in 0..m, if it is a sample.
@@ -50,11 +49,11 @@ pub fn all_read(plane: &[f32], width: usize, s: IntraRefSpec, m: i32) -> bool
     requires { ⌜ Placed (length (now plane)) width s × (m ≡ pos (most (s .d))) ⌝ }
     ensures { λ r. ⌜ r ≡ allRead (now (plane .entry)) width s ⌝ }
 {
-    if !side_read(plane, side::above_of(width, s), m) {
+    if !side_read(plane, sides::above_of(width, s), m) {
         return false;
     }
-    if !side_read(plane, side::left_of(width, s), m) {
+    if !side_read(plane, sides::left_of(width, s), m) {
         return false;
     }
-    spot_read(plane, side::corner_at(width, s), m)
+    spot_read(plane, sides::corner_at(width, s), m)
 }

@@ -6,7 +6,7 @@ use lib.IntN.{ℤ, pos, _+ℤ_}
 use lib.Ieee.{Float, nan, toSigned}
 use lib.ListN.{getD}
 use Rattle.lists.specs.Block.{sample}
-use Rattle.interpolation.specs.Interp.{clip}
+use Rattle.taps.specs.Interp.{clip}
 
 -- a predicted sample is a whole number that some depth has
 pub record Whole (v : Float) : Type 0 where

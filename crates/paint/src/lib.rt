@@ -6,7 +6,7 @@ ghost use lib.IntN.{pos};
 ghost use lib.ListN.{length};
 ghost use Rattle.signed.specs.Range.{inside};
 ghost use Rattle.lists.specs.Fill.{tab};
-ghost use Rattle.interpolation.specs.Interp.{clip};
+ghost use Rattle.taps.specs.Interp.{clip};
 ghost use Rattle.paint.specs.Block.{Whole, Wholes, withDifference, addedAt, Room};
 ghost use Rattle.paint.specs.Painted.{painted};
 

@@ -8,12 +8,12 @@ use Rattle.edge_line.specs.Along.{along}
 use Rattle.block_spec.specs.Behind.{aboveBehind, leftBehind, cornerBehind}
 use Rattle.paeth.specs.Paeth.{paeth}
 use Rattle.smooth_weights.specs.Weights.{log2, scale, weight}
-use Rattle.smooth.specs.Smooth.{blend}
-use Rattle.interpolation.specs.Interp.{clip, taps2, between}
+use Rattle.smooth_spec.specs.Smooth.{blend}
+use Rattle.taps.specs.Interp.{clip, taps2, between}
 use Rattle.edge_filter.specs.Filter.{edge, filtered}
-use Rattle.setting.specs.Strength.{strength}
+use Rattle.strength.specs.Strength.{strength}
 use Rattle.setting.specs.Setting.{strengthAbove, strengthLeft}
-use Rattle.setting.specs.Corner.{filteredCorner}
+use Rattle.strength.specs.Corner.{filteredCorner}
 use Rattle.zones.specs.Zones.{sampleAlong, zone2}
 use Rattle.directional.specs.Directional.{isDown, isAcross}
 use Rattle.fixed_product.specs.Product.{ilog2, digits, over, narrow, rounded, mulFixed}

@@ -9,7 +9,7 @@ use Rattle.samples.specs.Sample.{reading}
 use Rattle.edges.specs.Refs.{Lists, refsOf}
 use Rattle.block_spec.specs.declared.spec.IntraRefSpec.{IntraRefSpec}
 use Rattle.paeth.specs.Paeth.{paeth}
-use Rattle.smooth.specs.Smooth.{smoothVAt}
+use Rattle.smooth_spec.specs.Smooth.{smoothVAt}
 use Rattle.directional.specs.Directional.{directionalAt}
 use Rattle.fixed_product.specs.Product.{ilog2, mulFixed}
 use Rattle.reciprocal.specs.Division.{scaleOf}

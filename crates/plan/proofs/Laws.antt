@@ -25,7 +25,7 @@ use Rattle.job.specs.Rects.{clashOf}
 use Rattle.job_work.specs.Jobs.{jobs}
 use Rattle.job_work.proofs.Clash.{clash-exact}
 use Rattle.order.specs.Rules.{jobsIn, isOnce, isKept}
-use Rattle.plan.specs.Rules.{isPlan, runRules, runAnswer}
+use Rattle.run_rules.specs.Rules.{isPlan, runRules, runAnswer}
 use Rattle.plan.specs.Run.{Memory, inOrder, planOrder, answerFor}
 use Rattle.plan.proofs.Reorder.{once-exact, kept-exact, ready}
 

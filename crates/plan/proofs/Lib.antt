@@ -1,6 +1,4 @@
--- The theorem on orders, and orders that are accepted or refused.
+-- The theorem on orders, and what a run's answer says.
 pub mod Reorder
-pub mod Cases
 pub mod Laws
 pub mod Steps
-pub mod Tests

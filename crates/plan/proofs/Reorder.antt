@@ -22,9 +22,9 @@ use Rattle.job_work.specs.Jobs.{jobs}
 use Rattle.job_work.proofs.Clash.{clash-exact}
 use Rattle.job_work.proofs.Laws.{job-laws}
 use Rattle.order.specs.Rules.{jobsIn, isOnce, isKept}
-use Rattle.plan.specs.Rules.{runRules, runAnswer}
+use Rattle.run_rules.specs.Rules.{runRules, runAnswer}
 use Rattle.plan.specs.Run.{Memory, inOrder, planOrder, answerFor, Ran, Rows}
-use Rattle.plan.proofs.Tests.{parts}
+use Rattle.run_rules.proofs.Tests.{parts}
 
 module _ (W H : ℕ) (differences : List ℤ) (plan order : List ℕ) where
   -- rules 22 and 23 are exact

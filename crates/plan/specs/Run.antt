@@ -14,7 +14,7 @@ use Rattle.reorder.specs.Order.{Sheet, run, upFrom}
 use Rattle.job.specs.Row.{rowAt}
 use Rattle.job_work.specs.Jobs.{jobs}
 use Rattle.order.specs.Rules.{jobsIn}
-use Rattle.plan.specs.Rules.{runAnswer}
+use Rattle.run_rules.specs.Rules.{runAnswer}
 
 -- the memory of a run: its plane and its answer list
 abbrev pub Memory : ℕ → ℕ → List ℤ → Type 0

@@ -1,7 +1,6 @@
 // A plan of block jobs over one picture, run in an order (document 01). `run` takes any input and tests 20 to 23; the plane and the answers that it
 // leaves are those of the plan's own order, whichever accepted order it was given.
 mod rows;
-mod rules;
 
 use numbers::answer::Answer;
 ghost use Rattle.plan.specs.Run.{RanOver};
@@ -18,7 +17,7 @@ pub fn run(
 ) -> Answer
     ensures { λ r. ⌜ RanOver width height (now (differences .entry)) (now (plan .entry)) (now (order .entry)) (now (plane .entry)) (now (answers .entry)) (now (plane .exit)) (now (answers .exit)) r ⌝ }
 {
-    let answer = rules::refused(
+    let answer = run_rules::refused(
         plane.len(),
         width,
         height,

@@ -1,4 +1,3 @@
 -- Laws of a direction's setting.
 pub mod Most
-pub mod Samples
 pub mod Table

@@ -2,7 +2,7 @@
 -- Directions).
 use Prim.Native.Nat.{ℕ, _+_, _-_}
 use mathlib.Core.Bool.{_&&_}
-use Rattle.setting.specs.Strength.{strength}
+use Rattle.strength.specs.Strength.{strength}
 use Rattle.setting.specs.declared.Setting.{Setting}
 
 -- "distance d of the angle from its edge's own axis (90 for above, 180 for left)"

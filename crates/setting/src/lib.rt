@@ -1,8 +1,6 @@
-// What a direction is set to, and what follows from it: the steps along its edges, their filter's strength and limit, the corner (document 01,
+// What a direction is set to, and what follows from it: the steps along its edges, their filter's strength and limit (document 01,
 // Directions).
-pub mod corner;
 pub mod steps;
-mod strength;
 
 use row_words::flag::Flags;
 ghost use mathlib.Core.Path.{_≡_};

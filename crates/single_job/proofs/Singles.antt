@@ -14,7 +14,7 @@ use Rattle.refusals.specs.Ladder.{ladder}
 use Rattle.refusals.specs.Promise.{lent, Promise}
 use Rattle.refusals.proofs.Promise.{refused}
 use Rattle.block_spec.specs.Rules.{isPlane}
-use Rattle.neighbours.specs.Read.{readRules}
+use Rattle.sides.specs.Read.{readRules}
 use Rattle.job.specs.Row.{Row, specOf}
 use Rattle.job.specs.Rules.{rowRules, jobAnswer}
 use Rattle.job_work.specs.Done.{jobDone}

@@ -11,7 +11,7 @@ use Rattle.numbers.specs.declared.answer.Answer.the-variants.{BadPlane, BadPlan
 use Rattle.refusals.specs.Ladder.{Rule, _else_, ladder}
 use Rattle.refusals.specs.Promise.{lent, Promise}
 use Rattle.block_spec.specs.Rules.{isPlane}
-use Rattle.neighbours.specs.Read.{readRules}
+use Rattle.sides.specs.Read.{readRules}
 use Rattle.job.specs.Row.{Row, specOf}
 use Rattle.job.specs.Rules.{rowRules}
 use Rattle.job_work.specs.Done.{jobDone}

@@ -1,3 +1,2 @@
--- Laws of the smooth predictors.
-pub mod Laws
+-- What a block function hands to its rows.
 pub mod Ready

@@ -22,8 +22,8 @@ use Rattle.smooth_weights.specs.Weights.{log2, scale, weight}
 use Rattle.smooth_weights.specs.Reach.{reachOf}
 use Rattle.smooth_weights.proofs.Sizes.{sized, size-some}
 use Rattle.smooth_weights.proofs.Table.{weight-most, weight-none}
-use Rattle.smooth.specs.Smooth.{smoothed}
-use Rattle.smooth.proofs.Laws.{place-is}
+use Rattle.smooth_spec.specs.Smooth.{smoothed}
+use Rattle.smooth_spec.proofs.Laws.{place-is}
 
 -- the smooth predictors look at no corner: 0 stands for it
 pub no-corner : {B M : ℕ} {above left : List ℤ} {k : ℤ} {n : ℕ} → Given B M above left k n → Given B M above left (pos 0) n

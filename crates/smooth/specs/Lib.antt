@@ -1,2 +1,1 @@
--- To believe: Smooth, from document 01; its weights stand in `smooth_weights`.
-pub mod Smooth
+-- No definitions: the blocks and the calls promise what `smooth_spec` defines.

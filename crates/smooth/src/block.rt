@@ -6,7 +6,7 @@ ghost use lib.ListN.{length, getD};
 ghost use Rattle.lists.specs.Block.{block};
 ghost use Rattle.direct_calls.specs.Given.{Given};
 ghost use Rattle.smooth_steps.specs.Parts.{entry, weighed, Entries, Step, Weights};
-ghost use Rattle.smooth.specs.Smooth.{smoothVAt, smoothHAt, smoothAt};
+ghost use Rattle.smooth_spec.specs.Smooth.{smoothVAt, smoothHAt, smoothAt};
 
 // A block of smooth_v samples.
 pub fn smooth_v_into(bs: usize, above: &[i32], left: &[i32], out: &mut [f32])

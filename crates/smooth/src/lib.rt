@@ -3,7 +3,7 @@ pub mod block;
 
 use numbers::answer::Answer;
 ghost use Rattle.direct_calls.specs.Direct.{Predicted};
-ghost use Rattle.smooth.specs.Smooth.{smoothVAt, smoothHAt, smoothAt};
+ghost use Rattle.smooth_spec.specs.Smooth.{smoothVAt, smoothHAt, smoothAt};
 
 // smooth: done, with the block in out[..b * b], or a refusal, with nothing written.
 pub fn smooth(b: u16, d: u16, above: &[i32], left: &[i32], corner: i32, out: &mut [f32]) -> Answer

@@ -6,7 +6,7 @@ use mathlib.Core.List.{List}
 use lib.IntN.{ℤ, pos}
 use lib.ListN.{length, getD}
 use Rattle.signed.specs.Range.{Edge}
-use Rattle.interpolation.specs.Interp.{between}
+use Rattle.taps.specs.Interp.{between}
 
 -- the sample at q 64ths from the corner
 abbrev pub listed : Bool → ℤ → List ℤ → ℕ → ℤ

@@ -6,7 +6,7 @@ ghost use lib.IntN.{pos};
 ghost use lib.ListN.{length};
 ghost use Rattle.signed.specs.Range.{inside};
 ghost use Rattle.lists.specs.Block.{block};
-ghost use Rattle.interpolation.specs.Quads.{tableOf};
+ghost use Rattle.taps.specs.Quads.{tableOf};
 ghost use Rattle.zone_rows.specs.Listed.{ahead, Holds};
 
 // h rows of w samples, in out[..h * w], by the taps of a table.
@@ -41,9 +41,9 @@ pub fn z1_rows(w: usize, h: usize, lum: bool, dx: usize, m: i32, list: &[i32], o
     requires { ⌜ Holds (h * dx / 64 + w + 7) (now list) ⌝ }
     ensures { λ _. ⌜ now (out .exit) ≡ block w h (ahead lum m dx (now (list .entry))) (now (out .entry)) ⌝ }
 {
-    let mut filters = interpolation::table::chroma_table();
+    let mut filters = taps::table::chroma_table();
     if lum {
-        filters = interpolation::table::luma_table();
+        filters = taps::table::luma_table();
     }
     z1_by(w, h, lum, &filters, dx, m, list, out);
 }

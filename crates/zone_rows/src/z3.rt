@@ -8,8 +8,8 @@ ghost use lib.ListN.{length, getD};
 ghost use Rattle.signed.specs.Range.{inside};
 ghost use Rattle.lists.specs.Fill.{filled};
 ghost use Rattle.lists.specs.Block.{rows, sample, block};
-ghost use Rattle.interpolation.specs.Quads.{tableOf};
-ghost use Rattle.interpolation.specs.Interp.{between};
+ghost use Rattle.taps.specs.Quads.{tableOf};
+ghost use Rattle.taps.specs.Interp.{between};
 ghost use Rattle.zone_rows.specs.Listed.{ahead, Holds};
 
 // The columns of a strip: column c starts (c + 1) dy 64ths after from.
@@ -82,9 +82,9 @@ pub fn z3_strips(
     requires { ⌜ Holds (w * dy / 64 + 4 * n + 7) (now list) ⌝ }
     ensures { λ _. ⌜ now (out .exit) ≡ block w (4 * n) (λ r c. ahead lum m dy (now (list .entry)) c r) (now (out .entry)) ⌝ }
 {
-    let mut filters = interpolation::table::chroma_table();
+    let mut filters = taps::table::chroma_table();
     if lum {
-        filters = interpolation::table::luma_table();
+        filters = taps::table::luma_table();
     }
     z3_by(w, n, lum, &filters, dy, m, list, strip, out);
 }

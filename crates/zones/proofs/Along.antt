@@ -10,9 +10,9 @@ use lib.ListN.{getD}
 use borrow.Author.Tests.{ltb-true}
 use Rattle.signed.specs.Range.{inside}
 use Rattle.signed.proofs.Range.{inside-pos}
-use Rattle.interpolation.specs.Interp.{between}
-use Rattle.interpolation.proofs.Laws.{between-move}
-use Rattle.interpolation.proofs.Flat.{between-flat}
+use Rattle.taps.specs.Interp.{between}
+use Rattle.taps.proofs.Laws.{between-move}
+use Rattle.taps.proofs.Flat.{between-flat}
 use Rattle.edge_filter.specs.Filter.{padded}
 use Rattle.zones.specs.Zones.{sampleAlong, zone2}
 use Rattle.zone_rows.specs.Listed.{listed}

@@ -6,7 +6,7 @@ use Prim.Native.Nat.{ℕ, _+_, _*_, _/_}
 use lib.Dec.{leb, ltb}
 use lib.IntN.{ℤ, pos}
 use Rattle.signed.specs.Range.{inside}
-use Rattle.interpolation.proofs.Inside.{between-inside}
+use Rattle.taps.proofs.Inside.{between-inside}
 use Rattle.edge_filter.proofs.Filtered.{one-of}
 use Rattle.zones.specs.Zones.{sampleAlong, zone2}
 

@@ -4,7 +4,7 @@ use Prim.Native.Nat.{ℕ, _+_, _-_, _*_, _/_}
 use mathlib.Core.Bool.{Bool, cond}
 use lib.Dec.{leb, ltb}
 use lib.IntN.{ℤ}
-use Rattle.interpolation.specs.Interp.{between}
+use Rattle.taps.specs.Interp.{between}
 use Rattle.edge_filter.specs.Filter.{padded}
 
 -- the sample at q 64ths from the corner, along an edge with its ends repeated: past the last place it is that place's entry

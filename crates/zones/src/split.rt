@@ -11,7 +11,7 @@ ghost use lib.ListN.{length, getD};
 ghost use Rattle.signed.specs.Range.{inside};
 ghost use Rattle.lists.specs.Fill.{tab};
 ghost use Rattle.lists.specs.Block.{rows, sample};
-ghost use Rattle.interpolation.specs.Quads.{tableOf};
+ghost use Rattle.taps.specs.Quads.{tableOf};
 ghost use Rattle.zone_rows.specs.Listed.{listed, Holds};
 ghost use Rattle.zones.specs.Split.{splitOf};
 

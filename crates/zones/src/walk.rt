@@ -8,8 +8,8 @@ ghost use lib.ListN.{length, getD};
 ghost use Rattle.signed.specs.Range.{inside};
 ghost use Rattle.lists.specs.Fill.{filled};
 ghost use Rattle.lists.specs.Block.{rows, sample};
-ghost use Rattle.interpolation.specs.Quads.{tableOf};
-ghost use Rattle.interpolation.specs.Interp.{between};
+ghost use Rattle.taps.specs.Quads.{tableOf};
+ghost use Rattle.taps.specs.Interp.{between};
 ghost use Rattle.zone_rows.specs.Listed.{Holds};
 ghost use Rattle.zones.specs.Split.{splitOf};
 

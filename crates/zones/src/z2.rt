@@ -9,7 +9,7 @@ ghost use lib.ListN.{length};
 ghost use Rattle.signed.specs.Range.{inside};
 ghost use Rattle.lists.specs.Fill.{tab};
 ghost use Rattle.lists.specs.Block.{rows, sample, block};
-ghost use Rattle.interpolation.specs.Quads.{tableOf};
+ghost use Rattle.taps.specs.Quads.{tableOf};
 ghost use Rattle.zone_rows.specs.Listed.{Holds};
 ghost use Rattle.zones.specs.Either.{either};
 
@@ -93,9 +93,9 @@ pub fn z2_strips(
     requires { ⌜ (inside (pos 4095) m ≡ true) × Holds (w + 6) (now top) × Holds (4 * n + 6) (now left) ⌝ }
     ensures { λ _. ⌜ now (out .exit) ≡ block w (4 * n) (either lum m dx dy (now (top .entry)) (now (left .entry))) (now (out .entry)) ⌝ }
 {
-    let mut filters = interpolation::table::chroma_table();
+    let mut filters = taps::table::chroma_table();
     if lum {
-        filters = interpolation::table::luma_table();
+        filters = taps::table::luma_table();
     }
     z2_by(w, n, lum, &filters, dx, dy, m, top, left, strip, out);
 }

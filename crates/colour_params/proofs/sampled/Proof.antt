@@ -13,7 +13,7 @@ use Rattle.colour_samples.proofs.Ranges.{bits-least}
 use Rattle.colour_sums.proofs.Count.{count-most}
 use Rattle.colour_sums.proofs.Sizes.{sums-most}
 use Rattle.colour_sums.proofs.Whole.{gathered-none}
-use Rattle.colour_params.specs.Shift.{paramsOf}
+use Rattle.colour_solve.specs.Shift.{paramsOf}
 use Rattle.colour_params.proofs.Samples.{sampled-none, sampled-bad, sampled-large, sampled-done}
 use Rattle.colour_params.proofs.sampled.Proof.Steps.{n, s, gathered-is, g, u, both, small-is}
 use Rattle.colour_params.proofs.sampled.Statement.{statement}

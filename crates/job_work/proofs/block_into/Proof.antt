@@ -7,7 +7,7 @@ use lib.IntN.{ℤ}
 use mir.Syntax.{w32}
 use mir.Val.{toZ, ofZ}
 use Rattle.signed.proofs.Bound.{back}
-use Rattle.neighbours.specs.Values.{aboveOf, leftOf}
+use Rattle.sides.specs.Values.{aboveOf, leftOf}
 use Rattle.job_work.specs.Written.{aboveEdge, leftEdge, cornerEntry}
 use Rattle.modes.specs.Ready.{predictedBlock}
 use Rattle.job_work.proofs.Granted.{above-is, left-is, ready-at}

@@ -12,7 +12,7 @@ use Rattle.numbers.specs.Depth.{most}
 use Rattle.numbers.specs.declared.answer.Answer.the-variants.{Done, BadSample}
 use Rattle.signed.proofs.Bound.{back}
 use Rattle.refusals.proofs.Promise.{refused, finished}
-use Rattle.neighbours.specs.Read.{allRead}
+use Rattle.sides.specs.Read.{allRead}
 use Rattle.job_work.specs.Granted.{Granted, readAnswer, readDone}
 use Rattle.job_work.proofs.do_read.Statement.{statement}
 use Rattle.job_work.proofs.do_read.Tie as tie

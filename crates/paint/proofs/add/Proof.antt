@@ -10,8 +10,8 @@ use mir.Val.{SFits}
 use mir.Facts.{toZ-ofZ}
 use Rattle.signed.proofs.Bound.{abs-add, sfits-abs, back, back-abs, widens, widened, exact}
 use Rattle.lists.specs.Block.{sample}
-use Rattle.interpolation.specs.Interp.{clip}
-use Rattle.interpolation.proofs.Laws.{clip-small}
+use Rattle.taps.specs.Interp.{clip}
+use Rattle.taps.proofs.Laws.{clip-small}
 use Rattle.paint.proofs.Cast.{whole-cast}
 use borrow.Author.Needs.{needs}
 use Rattle.paint.proofs.add.Statement.{statement}

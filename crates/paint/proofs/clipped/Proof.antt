@@ -7,7 +7,7 @@ use lib.Signed.{ltZ}
 use mir.Syntax.{w32}
 use mir.Facts.{toZ-ofZ}
 use Rattle.signed.proofs.Bound.{back}
-use Rattle.interpolation.proofs.Laws.{clip-steps}
+use Rattle.taps.proofs.Laws.{clip-steps}
 use Rattle.paint.proofs.clipped.Statement.{statement}
 use Rattle.paint.proofs.clipped.Tie as tie
 

@@ -13,8 +13,8 @@ use Rattle.signed.specs.Range.{inside}
 use Rattle.signed.proofs.Bound.{back-abs}
 use Rattle.signed.proofs.Range.{inside-abs}
 use Rattle.lists.specs.Block.{block}
-use Rattle.setting.specs.Corner.{filteredCorner}
-use Rattle.setting.proofs.Samples.{corner-inside}
+use Rattle.strength.specs.Corner.{filteredCorner}
+use Rattle.strength.proofs.Samples.{corner-inside}
 use Rattle.angled.specs.AtAngle.{z2From}
 use Rattle.angled.proofs.zone2.z2_into.Statement.{statement}
 use Rattle.angled.proofs.zone2.z2_into.Tie as tie

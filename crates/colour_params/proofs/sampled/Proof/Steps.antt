@@ -5,7 +5,7 @@ use Rattle.numbers.specs.Depth.{most}
 use Rattle.colour_terms.specs.Terms.{entry}
 use Rattle.colour_sums.specs.Sum.{sumsOf, isReadable, gathered}
 use Rattle.colour_sums.proofs.Whole.{gathered-sums}
-use Rattle.colour_params.specs.Rules.{isSmall}
+use Rattle.colour_solve.specs.Small.{isSmall}
 use Rattle.colour_params.proofs.sampled.Tie as tie
 
 -- what was gathered

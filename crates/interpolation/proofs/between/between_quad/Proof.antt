@@ -11,8 +11,8 @@ use mir.Facts.{toZ-ofZ}
 use Rattle.signed.proofs.Bound.{back-abs}
 use Rattle.lists.specs.Fill.{tab}
 use Rattle.lists.specs.Block.{sample}
-use Rattle.interpolation.specs.Interp.{luma}
-use Rattle.interpolation.specs.Quads.{tap}
+use Rattle.taps.specs.Interp.{luma}
+use Rattle.taps.specs.Quads.{tap}
 use Rattle.interpolation.proofs.between.between_quad.Statement.{statement}
 use Rattle.interpolation.proofs.between.between_quad.Tie as tie
 

@@ -12,7 +12,7 @@ use mir.Facts.{toZ-ofZ}
 use Rattle.lists.specs.Fill.{tab, filled}
 use Rattle.lists.specs.Block.{sample}
 use Rattle.lists.proofs.Fill.{filled-none, filled-more, filled-all}
-use Rattle.interpolation.specs.Interp.{chroma}
+use Rattle.taps.specs.Interp.{chroma}
 use Rattle.interpolation.proofs.chroma.chroma_long.Statement.{statement}
 use Rattle.interpolation.proofs.chroma.chroma_long.Tie as tie
 

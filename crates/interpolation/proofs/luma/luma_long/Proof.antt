@@ -12,7 +12,7 @@ use mir.Facts.{toZ-ofZ}
 use Rattle.lists.specs.Fill.{tab, filled}
 use Rattle.lists.specs.Block.{sample}
 use Rattle.lists.proofs.Fill.{filled-none, filled-more, filled-all}
-use Rattle.interpolation.specs.Interp.{luma}
+use Rattle.taps.specs.Interp.{luma}
 use Rattle.interpolation.proofs.luma.luma_long.Statement.{statement}
 use Rattle.interpolation.proofs.luma.luma_long.Tie as tie
 

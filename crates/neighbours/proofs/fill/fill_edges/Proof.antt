@@ -7,12 +7,12 @@ use Rattle.signed.proofs.Bound.{back}
 use Rattle.edge_line.proofs.Onward.{edge-cleared}
 use Rattle.block_spec.specs.Behind.{aboveBehind, leftBehind, cornerBehind}
 use Rattle.block_spec.proofs.Placed.{first-fits}
-use Rattle.neighbours.specs.Spot.{spotOf, spotValue}
-use Rattle.neighbours.specs.Side.{aboveSide, leftSide}
-use Rattle.neighbours.specs.Values.{valueOf}
-use Rattle.neighbours.proofs.Sides.{above-lies, left-lies, corner-lies, above-value, left-value}
+use Rattle.sides.specs.Spot.{spotOf, spotValue}
+use Rattle.sides.specs.Side.{aboveSide, leftSide}
+use Rattle.sides.specs.Values.{valueOf}
+use Rattle.sides.proofs.Sides.{above-lies, left-lies, corner-lies, above-value, left-value}
 use Rattle.neighbours.proofs.Made.{asked, gives}
-use Rattle.neighbours.proofs.Tested.{above-readable, left-readable, corner-read, readable}
+use Rattle.sides.proofs.Tested.{above-readable, left-readable, corner-read, readable}
 use Rattle.neighbours.proofs.fill.fill_edges.Statement.{statement}
 use Rattle.neighbours.proofs.fill.fill_edges.Tie as tie
 

@@ -16,8 +16,8 @@ use Rattle.lists.proofs.Fill.{length-filled, filled-none, filled-same, filled-a
 use Rattle.samples.specs.Sample.{reading}
 use Rattle.edge_line.proofs.Halves.{entry-past}
 use Rattle.edge_line.proofs.Onward.{onward-filled}
-use Rattle.neighbours.specs.declared.side.Side.{Side}
-use Rattle.neighbours.specs.Side.{sideAt, sideValue}
+use Rattle.sides.specs.declared.Side.{Side}
+use Rattle.sides.specs.Side.{sideAt, sideValue}
 use Rattle.neighbours.proofs.fill.fill_side.Statement.{statement}
 use Rattle.neighbours.proofs.fill.fill_side.Tie as tie
 

@@ -7,7 +7,7 @@ use lib.ListN.{length, getD}
 use mir.Syntax.{w32}
 use Rattle.signed.proofs.Bound.{back}
 use Rattle.samples.specs.Sample.{Readable}
-use Rattle.neighbours.specs.Spot.{spotValue, SpotLies, SpotReadable}
+use Rattle.sides.specs.Spot.{spotValue, SpotLies, SpotReadable}
 use Rattle.neighbours.proofs.fill.value_at.Statement.{statement}
 use Rattle.neighbours.proofs.fill.value_at.Tie as tie
 

@@ -11,11 +11,11 @@ use Rattle.signed.specs.Range.{inside}
 use Rattle.signed.proofs.Bound.{back}
 use Rattle.block_spec.specs.Behind.{cornerBehind}
 use Rattle.block_spec.proofs.Placed.{first-fits}
-use Rattle.neighbours.specs.Spot.{spotInRange, SpotLies}
-use Rattle.neighbours.specs.Side.{sideRead, SideLies, aboveSide, leftSide}
-use Rattle.neighbours.specs.Read.{behindInRange, allRead}
-use Rattle.neighbours.proofs.Sides.{above-lies, left-lies, corner-lies}
-use Rattle.neighbours.proofs.Tested.{most-inside, all-by-sides}
+use Rattle.sides.specs.Spot.{spotInRange, SpotLies}
+use Rattle.sides.specs.Side.{sideRead, SideLies, aboveSide, leftSide}
+use Rattle.sides.specs.Read.{behindInRange, allRead}
+use Rattle.sides.proofs.Sides.{above-lies, left-lies, corner-lies}
+use Rattle.sides.proofs.Tested.{most-inside, all-by-sides}
 use Rattle.neighbours.proofs.reads.all_read.Statement.{statement}
 use Rattle.neighbours.proofs.reads.all_read.Tie as tie
 

@@ -10,7 +10,7 @@ use Rattle.signed.specs.Range.{inside}
 use Rattle.signed.proofs.Bound.{back}
 use Rattle.samples.specs.Sample.{isSample}
 use Rattle.edge_line.specs.Every.{every}
-use Rattle.neighbours.specs.Side.{sideAt}
+use Rattle.sides.specs.Side.{sideAt}
 use Rattle.neighbours.proofs.reads.side_read.Statement.{statement}
 use Rattle.neighbours.proofs.reads.side_read.Tie as tie
 

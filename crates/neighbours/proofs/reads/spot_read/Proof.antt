@@ -7,7 +7,7 @@ use lib.ListN.{length, getD}
 use mir.Syntax.{w32}
 use Rattle.signed.proofs.Bound.{back}
 use Rattle.samples.specs.Sample.{isSample}
-use Rattle.neighbours.specs.Spot.{spotInRange, SpotLies}
+use Rattle.sides.specs.Spot.{spotInRange, SpotLies}
 use Rattle.neighbours.proofs.reads.spot_read.Statement.{statement}
 use Rattle.neighbours.proofs.reads.spot_read.Tie as tie
 

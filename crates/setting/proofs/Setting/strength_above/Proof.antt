@@ -1,7 +1,7 @@
 -- `strength_above` meets its contract: the distance is the definition's. Assumes nothing.
 use borrow.Author.Needs.{needs}
 use mathlib.Core.Path.{_∙_, ap}
-use Rattle.setting.specs.Strength.{strength}
+use Rattle.strength.specs.Strength.{strength}
 use Rattle.setting.specs.Setting.{strengthAbove}
 use Rattle.setting.proofs.Setting.strength_above.Statement.{statement}
 use Rattle.setting.proofs.Setting.strength_above.Tie as tie

@@ -8,7 +8,7 @@ use Rattle.lists.specs.Block.{block}
 use Rattle.lists.proofs.Block.{block-same}
 use Rattle.direct_calls.proofs.Accepted.{size-most}
 use Rattle.smooth_steps.specs.Parts.{entry, weighed, Entries, Step}
-use Rattle.smooth.specs.Smooth.{smoothHAt}
+use Rattle.smooth_spec.specs.Smooth.{smoothHAt}
 use Rattle.smooth.proofs.Ready.{above-entries, left-entries, first-half, end-there, end-in, end-step, scale-low, weights-are, all-weights, place}
 use Rattle.smooth.proofs.block.smooth_h_into.Statement.{statement}
 use Rattle.smooth.proofs.block.smooth_h_into.Tie as tie

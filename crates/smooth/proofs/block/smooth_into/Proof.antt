@@ -5,7 +5,7 @@ use Prim.Native.Nat.{_<_}
 use lib.IntN.{pos, _+ℤ_}
 use Rattle.lists.proofs.Block.{block-same}
 use Rattle.direct_calls.proofs.Accepted.{size-most}
-use Rattle.smooth.specs.Smooth.{shr}
+use Rattle.smooth_spec.specs.Smooth.{shr}
 use Rattle.smooth.proofs.Ready.{above-entries, left-entries, first-half, end-there, end-in, end-step, scale-low, weights-are, place}
 use Rattle.smooth.proofs.block.smooth_into.Statement.{statement}
 use Rattle.smooth.proofs.block.smooth_into.Tie as tie

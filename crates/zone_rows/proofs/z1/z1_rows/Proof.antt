@@ -3,7 +3,7 @@ use borrow.Author.Needs.{needs}
 use mathlib.Core.Logic.{⊎-elim}
 use mathlib.Core.Path.{_≡_, sym, _∙_, ap}
 use mir.Facts.{toZ-ofZ}
-use Rattle.interpolation.specs.Quads.{tableOf}
+use Rattle.taps.specs.Quads.{tableOf}
 use Rattle.zone_rows.proofs.z1.z1_rows.Statement.{statement}
 use Rattle.zone_rows.proofs.z1.z1_rows.Tie as tie
 

@@ -15,7 +15,7 @@ use Rattle.lists.specs.Fill.{filled}
 use Rattle.lists.specs.Block.{rows, sample}
 use Rattle.lists.proofs.Fill.{filled-none}
 use Rattle.lists.proofs.Block.{filled-row, part-length}
-use Rattle.interpolation.specs.Interp.{between}
+use Rattle.taps.specs.Interp.{between}
 use Rattle.zone_rows.proofs.z3.z3_columns.Statement.{statement}
 use Rattle.zone_rows.proofs.z3.z3_columns.Tie as tie
 

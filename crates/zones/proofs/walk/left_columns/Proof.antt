@@ -11,7 +11,7 @@ use mir.Facts.{toZ-ofZ}
 use Rattle.lists.specs.Block.{sample}
 use Rattle.lists.proofs.Fill.{filled-none}
 use Rattle.lists.proofs.Block.{filled-row, part-length}
-use Rattle.interpolation.specs.Interp.{between}
+use Rattle.taps.specs.Interp.{between}
 use Rattle.zones.proofs.walk.left_columns.Proof.Column.{at, Inv-loop, μ-loop, Inv-walk, μ-walk, written, k, s, reached, enough, room, reach, next, place}
 use Rattle.zones.proofs.walk.left_columns.Proof.Passed as passed
 use Rattle.zones.proofs.walk.left_columns.Statement.{statement}

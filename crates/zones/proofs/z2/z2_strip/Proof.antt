@@ -18,7 +18,7 @@ use Rattle.lists.specs.Fill.{tab, filled}
 use Rattle.lists.specs.Block.{rows, sample}
 use Rattle.lists.proofs.Fill.{tab-same}
 use Rattle.lists.proofs.Block.{rows-at, rows-same}
-use Rattle.interpolation.specs.Interp.{between}
+use Rattle.taps.specs.Interp.{between}
 use Rattle.zone_rows.specs.Listed.{listed}
 use Rattle.zones.specs.Either.{either}
 use Rattle.zones.specs.Split.{splitOf}

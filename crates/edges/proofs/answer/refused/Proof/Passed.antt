@@ -11,7 +11,7 @@ use Rattle.refusals.specs.Ladder.{Rule, _else_, ladder}
 use Rattle.refusals.proofs.Ladder.{AllKept, kept, all-of, segment-kept}
 use Rattle.block_spec.specs.Rules.{isPlane, sizeRules, placeRules}
 use Rattle.edges.specs.Rules.{outputsLong, refsAnswer}
-use Rattle.neighbours.specs.Read.{readRules}
+use Rattle.sides.specs.Read.{readRules}
 use Rattle.block_spec.specs.Placed.{Placed}
 use Rattle.block_spec.proofs.Placed.{standing, placed}
 use Rattle.edges.proofs.answer.refused.Tie as tie

@@ -12,8 +12,8 @@ use mir.Facts.{toZ-ofZ, toZ-pos}
 use Rattle.lists.specs.Fill.{tab}
 use Rattle.lists.specs.Block.{sample}
 use Rattle.lists.proofs.Fill.{tab-same, rest-length}
-use Rattle.interpolation.specs.Interp.{chroma, between}
-use Rattle.interpolation.proofs.Laws.{rest, rest-edge, chroma-rest, between-chroma}
+use Rattle.taps.specs.Interp.{chroma, between}
+use Rattle.taps.proofs.Laws.{rest, rest-edge, chroma-rest, between-chroma}
 use Rattle.interpolation.proofs.between.between.Proof.Taps.{f, p}
 use Rattle.interpolation.proofs.between.between.Tie as tie
 

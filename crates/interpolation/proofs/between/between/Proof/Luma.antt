@@ -9,8 +9,8 @@ use mir.Facts.{toZ-ofZ}
 use Rattle.lists.specs.Fill.{tab}
 use Rattle.lists.specs.Block.{sample}
 use Rattle.lists.proofs.Fill.{rest-length}
-use Rattle.interpolation.specs.Interp.{luma}
-use Rattle.interpolation.proofs.Laws.{rest, rest-edge}
+use Rattle.taps.specs.Interp.{luma}
+use Rattle.taps.proofs.Laws.{rest, rest-edge}
 use Rattle.interpolation.proofs.between.between.Proof.Taps.{taps, tap-back, row-by-four}
 use Rattle.interpolation.proofs.between.between.Tie as tie
 

@@ -11,10 +11,10 @@ use Rattle.signed.proofs.Bound.{back-abs}
 use Rattle.lists.specs.Fill.{tab}
 use Rattle.lists.specs.Block.{sample}
 use Rattle.lists.proofs.Fill.{tab-same}
-use Rattle.interpolation.specs.Interp.{Taps, between}
-use Rattle.interpolation.specs.Quads.{tap, tapped}
-use Rattle.interpolation.proofs.Laws.{rest, luma-rest}
-use Rattle.interpolation.proofs.Four.{tap-small, tapped-is}
+use Rattle.taps.specs.Interp.{Taps, between}
+use Rattle.taps.specs.Quads.{tap, tapped}
+use Rattle.taps.proofs.Laws.{rest, luma-rest}
+use Rattle.taps.proofs.Four.{tap-small, tapped-is}
 use Rattle.interpolation.proofs.between.between.Tie as tie
 
 module _ (s : tie.Start) where

@@ -13,7 +13,7 @@ use mir.Val.{toZ, ofZ}
 use Rattle.lists.specs.Fill.{filled}
 use Rattle.lists.specs.Block.{rows, sample}
 use Rattle.lists.proofs.Block.{rows-at}
-use Rattle.interpolation.specs.Interp.{between}
+use Rattle.taps.specs.Interp.{between}
 use Rattle.zone_rows.specs.Listed.{ahead}
 use Rattle.zone_rows.proofs.z3.z3_by.Tie as tie
 

@@ -18,7 +18,7 @@ use Rattle.signed.specs.Range.{Edge}
 use Rattle.lists.specs.Fill.{tab, filled}
 use Rattle.lists.specs.Block.{sample}
 use Rattle.lists.proofs.Fill.{filled-none, filled-part}
-use Rattle.interpolation.specs.Interp.{between}
+use Rattle.taps.specs.Interp.{between}
 use Rattle.zone_rows.specs.Listed.{listed}
 use Rattle.zones.proofs.split.split_row.Tie as tie
 

@@ -14,7 +14,7 @@ use mir.Val.{toZ}
 use mir.Facts.{toZ-ofZ}
 use Rattle.lists.specs.Fill.{filled}
 use Rattle.lists.specs.Block.{rows, sample}
-use Rattle.interpolation.specs.Interp.{between}
+use Rattle.taps.specs.Interp.{between}
 use Rattle.zones.proofs.Inside.{left-inside}
 use Rattle.zones.proofs.walk.left_columns.Tie as tie
 

@@ -1,0 +1,2 @@
+-- Laws of the shift.
+pub mod Reach

@@ -1,0 +1,2 @@
+-- The smooth predictors in natural numbers.
+pub mod Laws
