@@ -30,13 +30,15 @@ fn main() {
         std::process::exit(2);
     };
     println!("oracle: seed {SEED}, scale {scale}");
+    // plans take as long as all the rest, and share nothing with it
+    let plans = std::thread::spawn(move || plan::compare(SEED, scale));
     let samples = predictors::compare(SEED, scale) + directional::compare(SEED, scale);
     let sets = edges::compare(SEED, scale);
     still::compare(&std::env::args().nth(2).unwrap_or_default());
     let windows = derive_params::compare(SEED, scale);
     let colour = predict_block::compare(SEED, scale);
     let solved = elimination::compare(SEED, scale);
-    let plans = plan::compare(SEED, scale);
+    let plans = plans.join().expect("the comparison of plans ends");
     print!("oracle: {samples} predicted samples, {sets} edge sets, ");
     println!("{windows} colour windows, {colour} colour samples, {solved} eliminations, {plans} plans, 0 differences");
 }

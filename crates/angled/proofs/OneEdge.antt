@@ -15,9 +15,9 @@ use Rattle.edge_filter.proofs.Filtered.{filtered-inside}
 use Rattle.edge_filter.proofs.Ready.{ready-at, ready-inside}
 use Rattle.setting.specs.Steps.{step}
 use Rattle.setting.proofs.Table.{step-low}
-use Rattle.zones.specs.Zones.{zone1, zone3}
+use Rattle.zone_spec.specs.Zones.{zone1, zone3}
 use Rattle.zone_rows.specs.Listed.{ahead, Fours}
-use Rattle.zones.proofs.Blocks.{zone1-block, zone3-block}
+use Rattle.zone_spec.proofs.Blocks.{zone1-block, zone3-block}
 use Rattle.angled.proofs.Samples.{m-is, in-sample, edge-sample}
 
 -- a is the angle that the step is of; the edge is filtered by the strength st below the limit lim

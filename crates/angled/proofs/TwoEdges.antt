@@ -16,8 +16,8 @@ use Rattle.setting.specs.Setting.{strengthAbove, strengthLeft, limitAbove, limi
 use Rattle.setting.specs.declared.Setting.{Setting}
 use Rattle.setting.proofs.Most.{above-most, left-most}
 use Rattle.setting.proofs.Table.{steps-within}
-use Rattle.zones.specs.Either.{either}
-use Rattle.zones.proofs.Blocks.{zone2-block}
+use Rattle.zone_spec.specs.Either.{either}
+use Rattle.zone_spec.proofs.Blocks.{zone2-block}
 use Rattle.angled.specs.AtAngle.{aboveReady, leftReady, z2From}
 
 module _ (B : ℕ) (s : Setting) (k : ℤ) where

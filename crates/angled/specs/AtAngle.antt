@@ -5,7 +5,7 @@ use mathlib.Core.List.{List}
 use lib.IntN.{ℤ, pos}
 use lib.ListN.{getD}
 use Rattle.edge_filter.specs.Filter.{edge, filtered}
-use Rattle.zones.specs.Zones.{zone1, zone2, zone3}
+use Rattle.zone_spec.specs.Zones.{zone1, zone2, zone3}
 use Rattle.setting.specs.Steps.{step}
 use Rattle.setting.specs.Setting.{strengthAbove, strengthLeft, limitAbove, limitLeft}
 use Rattle.strength.specs.Corner.{filteredCorner}

@@ -10,11 +10,11 @@ use Rattle.block_spec.specs.Placed.{Standing}
 use Rattle.reorder.specs.Rect.{Wide, In, InAny}
 use Rattle.job.specs.Row.{Row, specOf}
 use Rattle.job.specs.Rules.{stands}
-use Rattle.job.specs.Rects.{runsOf, readsOf, writesOf}
+use Rattle.touches.specs.Rects.{runsOf, readsOf, writesOf}
 use Rattle.job.proofs.Stands.{standing}
-use Rattle.job.proofs.Places.{rect-if}
-use Rattle.job.proofs.Exact.{writes-wide, reads-exact}
-use Rattle.job.specs.Touches.{blockAt}
+use Rattle.touches.proofs.Places.{rect-if}
+use Rattle.touches.proofs.Exact.{writes-wide, reads-exact}
+use Rattle.touches.specs.Touches.{blockAt}
 use Rattle.clash.specs.Hull.{one, past, hullOf, onlyIf, blockFor, hullFor}
 
 -- a neighbour adds at most one row or column, and at most B samples past the block

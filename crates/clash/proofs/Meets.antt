@@ -10,9 +10,9 @@ use Rattle.reorder.proofs.Cross.{clash-decides}
 use Rattle.block_spec.specs.declared.spec.IntraRefSpec.{IntraRefSpec}
 use Rattle.job.specs.Row.{Row, specOf}
 use Rattle.job.specs.Rules.{stands}
-use Rattle.job.specs.Rects.{runsOf, readsOf, writesOf, clashOf}
-use Rattle.job.proofs.Exact.{reads-wide, writes-wide, reads-exact, writes-exact}
-use Rattle.job.specs.Touches.{blockAt}
+use Rattle.touches.specs.Rects.{runsOf, readsOf, writesOf, clashOf}
+use Rattle.touches.proofs.Exact.{reads-wide, writes-wide, reads-exact, writes-exact}
+use Rattle.touches.specs.Touches.{blockAt}
 use Rattle.clash.specs.Hull.{blockFor, hullFor}
 use Rattle.clash.proofs.Around.{hull-wide, block-wide, writes-in, block-in, reads-in}
 

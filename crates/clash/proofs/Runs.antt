@@ -8,8 +8,8 @@ use borrow.Author.Tests.{le-ltb}
 use Rattle.block_spec.specs.declared.spec.IntraRefSpec.{IntraRefSpec}
 use Rattle.reorder.specs.Rect.{Rect, meetB, meetAnyB, crossB}
 use Rattle.reorder.proofs.Cross.{cross-one}
-use Rattle.job.specs.Rects.{rectIf, runsOf}
-use Rattle.job.specs.Touches.{blockAt}
+use Rattle.touches.specs.Rects.{rectIf, runsOf}
+use Rattle.touches.specs.Touches.{blockAt}
 
 meet-none : (A : Rect) → meetB A (record { x = 0; y = 0; w = 0; h = 0 }) ≡ false
 unfolding meetB

@@ -5,8 +5,8 @@ use Rattle.block_spec.specs.declared.spec.IntraRefSpec.{IntraRefSpec}
 use Rattle.reorder.specs.Rect.{Rect}
 use Rattle.job.specs.Row.{Row, specOf}
 use Rattle.job.specs.Rules.{stands}
-use Rattle.job.specs.Touches.{blockAt}
-use Rattle.job.specs.Rects.{rectIf}
+use Rattle.touches.specs.Touches.{blockAt}
+use Rattle.touches.specs.Rects.{rectIf}
 
 -- one row or column more if the neighbour is there
 abbrev pub one : Bool → ℕ

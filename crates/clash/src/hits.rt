@@ -8,8 +8,8 @@ ghost use mathlib.Core.Bool.{true, _&&_, _||_};
 ghost use mathlib.Core.List.{[], _∷_};
 ghost use Prim.Native.Nat.{_+_, _-_, min};
 ghost use Rattle.reorder.specs.Rect.{meetB, crossB};
-ghost use Rattle.job.specs.Rects.{rectIf, runsOf};
-ghost use Rattle.job.specs.Touches.{blockAt};
+ghost use Rattle.touches.specs.Rects.{rectIf, runsOf};
+ghost use Rattle.touches.specs.Touches.{blockAt};
 ghost use Rattle.clash.specs.Rects.{rectOf, Small, Near};
 
 // The block.

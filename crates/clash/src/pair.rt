@@ -7,7 +7,7 @@ ghost use Prim.Native.Nat.{_+_, _*_, _≤_};
 ghost use lib.ListN.{length};
 ghost use Rattle.job.specs.Row.{rowAt};
 ghost use Rattle.job.specs.Rules.{stands};
-ghost use Rattle.job.specs.Rects.{clashOf};
+ghost use Rattle.touches.specs.Rects.{clashOf};
 
 // Whether the job of a row does not fail 1 to 7.
 pub fn stands(width: usize, height: usize, n: usize, row: &[u16]) -> bool

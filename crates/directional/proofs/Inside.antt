@@ -11,7 +11,7 @@ use Rattle.edge_filter.proofs.Filtered.{filtered-inside, one-of}
 use Rattle.setting.specs.Setting.{strengthAbove, strengthLeft, limitAbove, limitLeft}
 use Rattle.setting.specs.declared.Setting.{Setting}
 use Rattle.setting.proofs.Most.{above-most, left-most}
-use Rattle.zones.proofs.Range.{along-inside, zone2-inside}
+use Rattle.zone_spec.proofs.Range.{along-inside, zone2-inside}
 use Rattle.angled.specs.AtAngle.{aboveReady, leftReady}
 use Rattle.directional.specs.Directional.{isDown, isAcross, directionalAt}
 

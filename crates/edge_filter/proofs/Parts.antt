@@ -1,14 +1,15 @@
 -- Parts that are lent: what fills a list part by part, and a list with its ends repeated from an entry on, with the five entries that a filtered
 -- place reads. Assumes nothing.
+use mathlib.Core.Bool.{true}
 use mathlib.Core.Path.{_≡_, sym, _∙_, ap}
 use mathlib.Core.List.{List}
 use Prim.Native.Nat.{ℕ, _+_, _-_, _≤_, _<_, min}
 use native.Mathlib.Omega.{arith}
 use lib.ListN.{length, getD, take, drop, length-take}
 use lib.IntN.{ℤ, pos}
-use Rattle.signed.specs.Range.{Edge}
+use Rattle.signed.specs.Range.{inside, Edge}
 use Rattle.lists.specs.Fill.{tab, filled}
-use Rattle.lists.proofs.Fill.{rest-at, rest-length, filled-part, length-filled}
+use Rattle.lists.proofs.Fill.{rest-at, rest-each, rest-length, filled-part, length-filled}
 use borrow.Rule.Slice.PartMut.{putMid}
 use Rattle.kernels.specs.Kernel.{five, taps5}
 use Rattle.edge_filter.specs.Filter.{padded}
@@ -33,16 +34,14 @@ abbrev pub rest : ℕ → List ℤ → List ℤ
 rest s xs = take (length xs - s) (drop s xs)
 
 module _ (n : ℕ) (xs : List ℤ) (h : Ends n xs) where
-  rest-edge : (s m : ℕ) → s + m ≤ n + 7 → Edge 4095 m (rest s xs)
-  rest-edge s m r i k =
-      let l = h .long in
-      rw (rest-at s xs i (pos 0) (omega arith)) (h .samples (s + i) (omega arith))
+  edge-from : (s m : ℕ) → s + m ≤ n + 7 → Edge 4095 m (rest s xs)
+  edge-from s m r = rest-each (λ z. inside (pos 4095) z ≡ true) (n + 7) m s xs (pos 0) (h .long) r (h .samples)
 
   -- what a part of at most k entries asks of the list that is lent from s on, to be copied and to be filtered
   pub rest-copy : (s k : ℕ) (ys : List ℤ) → s + k ≤ n + 7 → (length (take k ys) ≤ length (rest s xs)) × Edge 4095 (length (take k ys)) (rest s xs)
   rest-copy s k ys r =
       let l = h .long in
-      lend k k (rest s xs) ys (omega arith) (omega (arith, rest-length s xs)) (rest-edge s k r)
+      lend k k (rest s xs) ys (omega arith) (omega (arith, rest-length s xs)) (edge-from s k r)
 
   pub rest-blur : (s k : ℕ) (ys : List ℤ) → s + k + 4 ≤ n + 7
       → (length (take k ys) + 4 ≤ length (rest s xs)) × Edge 4095 (length (take k ys) + 4) (rest s xs)
@@ -50,7 +49,7 @@ module _ (n : ℕ) (xs : List ℤ) (h : Ends n xs) where
       let m = length-take k ys in
       let l = h .long in
       let u : length (take k ys) ≤ k = omega arith in
-      (omega (arith, rest-length s xs), rest-edge s (length (take k ys) + 4) (omega arith))
+      (omega (arith, rest-length s xs), edge-from s (length (take k ys) + 4) (omega arith))
 
   -- an entry that is lent from s on, by its place
   pub rest-place : (s i j : ℕ) → s + i < n + 7 → j ≡ min n (s + i - 4) → getD (rest s xs) i (pos 0) ≡ place xs j

@@ -17,7 +17,7 @@ use Rattle.lists.specs.Block.{sample, block}
 use Rattle.lists.proofs.Block.{block-length, block-at}
 use Rattle.direct_calls.proofs.Accepted.{depth-most}
 use Rattle.taps.specs.Interp.{clip}
-use Rattle.job.specs.Touches.{blockAt}
+use Rattle.touches.specs.Touches.{blockAt}
 use Rattle.job.specs.declared.job.Job.{Job}
 use Rattle.job_work.specs.Written.{predictedAt, writtenAt}
 use Rattle.paint.specs.Painted.{painted}

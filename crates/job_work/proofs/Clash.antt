@@ -9,8 +9,8 @@ use Rattle.reorder.specs.Jobs.{Hits, Clash}
 use Rattle.reorder.specs.Rect.{InAny}
 use Rattle.reorder.proofs.Cross.{clash-decides}
 use Rattle.job.specs.Row.{Row}
-use Rattle.job.specs.Rects.{readsOf, writesOf, clashOf}
-use Rattle.job.proofs.Exact.{reads-exact, writes-exact, reads-wide, writes-wide}
+use Rattle.touches.specs.Rects.{readsOf, writesOf, clashOf}
+use Rattle.touches.proofs.Exact.{reads-exact, writes-exact, reads-wide, writes-wide}
 use Rattle.job_work.specs.Jobs.{jobs}
 
 module _ (W H : ℕ) (differences : List ℤ) where

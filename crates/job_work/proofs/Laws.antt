@@ -23,8 +23,8 @@ use Rattle.reorder.proofs.Cross.{in-any-decides}
 use Rattle.job.specs.Row.{Row}
 use Rattle.job.specs.Rules.{stands, jobAnswer}
 use Rattle.job.specs.Job.{jobOf}
-use Rattle.job.specs.Touches.{blockOf, Writes}
-use Rattle.job.specs.Rects.{writesOf}
+use Rattle.touches.specs.Touches.{blockOf, Writes}
+use Rattle.touches.specs.Rects.{writesOf}
 use Rattle.job_work.specs.Written.{writtenAt}
 use Rattle.paint.specs.Painted.{painted}
 use Rattle.job_work.specs.Done.{jobDone}
@@ -32,7 +32,7 @@ use Rattle.job_work.specs.Jobs.{jobs}
 use Rattle.job.proofs.Stands.{standing, done-stands}
 use Rattle.paint.proofs.Painted.{painted-length, painted-in, painted-out}
 use Rattle.job_work.proofs.Local.{answer-same, written-same}
-use Rattle.job.proofs.Exact.{writes-wide, writes-exact}
+use Rattle.touches.proofs.Exact.{writes-wide, writes-exact}
 
 module _ (W H : ℕ) (differences : List ℤ) where
   abbrev answerOf : Row → List Float → Answer

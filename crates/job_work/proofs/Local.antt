@@ -26,7 +26,7 @@ use Rattle.taps.specs.Interp.{clip}
 use Rattle.job.specs.Row.{Row, word, specOf}
 use Rattle.job.specs.Rules.{stands, rowAnswer, jobAnswer}
 use Rattle.job.specs.Job.{jobOf}
-use Rattle.job.specs.Touches.{IsAt, Read, by-above, by-left, by-corner, Reads}
+use Rattle.touches.specs.Touches.{IsAt, Read, by-above, by-left, by-corner, Reads}
 use Rattle.modes.specs.Predictor.{predictorOf}
 use Rattle.job_work.specs.Written.{aboveEdge, leftEdge, cornerEntry, differenceAt, writtenAt}
 use Rattle.job.proofs.Stands.{answer-then}

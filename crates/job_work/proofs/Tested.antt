@@ -16,7 +16,7 @@ use Rattle.block_spec.proofs.Placed.{placed}
 use Rattle.job.specs.Row.{Row, specOf}
 use Rattle.job.specs.Rules.{hasDifferences, rowAnswer, stands, jobAnswer}
 use Rattle.job.specs.Job.{jobOf, readRow}
-use Rattle.job.specs.Touches.{blockOf}
+use Rattle.touches.specs.Touches.{blockOf}
 use Rattle.job.specs.declared.job.Job.{Job}
 use Rattle.job.specs.declared.job.FoundJob.the-variants.{Is, Refused}
 use Rattle.job.proofs.Stands.{row-kept, answer-by}

@@ -9,7 +9,7 @@ use Rattle.refusals.specs.Promise.{lent, Promise}
 use Rattle.job.specs.Row.{Row}
 use Rattle.job.specs.Rules.{jobAnswer}
 use Rattle.job.specs.Job.{jobOf}
-use Rattle.job.specs.Touches.{blockOf}
+use Rattle.touches.specs.Touches.{blockOf}
 use Rattle.paint.specs.Painted.{painted}
 use Rattle.job_work.specs.Written.{writtenAt}
 

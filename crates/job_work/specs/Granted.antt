@@ -12,7 +12,7 @@ use Rattle.refusals.specs.Ladder.{ladder}
 use Rattle.refusals.specs.Promise.{lent}
 use Rattle.sides.specs.Read.{allRead, readRules}
 use Rattle.block_spec.specs.Placed.{Placed}
-use Rattle.job.specs.Touches.{blockAt}
+use Rattle.touches.specs.Touches.{blockAt}
 use Rattle.job.specs.declared.job.Job.{Job}
 use Rattle.job_work.specs.Written.{writtenAt}
 use Rattle.paint.specs.Painted.{painted}

@@ -9,7 +9,7 @@ use Rattle.numbers.specs.Answer.{answerNumber}
 use Rattle.reorder.specs.Jobs.{Jobs}
 use Rattle.job.specs.Row.{Row}
 use Rattle.job.specs.Rules.{jobAnswer}
-use Rattle.job.specs.Touches.{Reads, Writes}
+use Rattle.touches.specs.Touches.{Reads, Writes}
 use Rattle.job_work.specs.Done.{jobDone}
 
 -- the answer as its number: "0 is done"

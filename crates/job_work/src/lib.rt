@@ -14,7 +14,7 @@ ghost use Rattle.numbers.specs.Depth.{most};
 ghost use Rattle.lists.specs.Block.{block};
 ghost use Rattle.refusals.specs.Promise.{Promise};
 ghost use Rattle.block_spec.specs.Rules.{isPlane};
-ghost use Rattle.job.specs.Touches.{blockAt};
+ghost use Rattle.touches.specs.Touches.{blockAt};
 ghost use Rattle.job_work.specs.Written.{predictedAt, writtenAt};
 ghost use Rattle.paint.specs.Painted.{painted};
 ghost use Rattle.job_work.specs.Done.{JobDone};

@@ -95,6 +95,11 @@ module _ {A : Type 0} where
   pub rest-at : (s : ℕ) (xs : List A) (i : ℕ) (d : A) → s + i < length xs → getD (take (length xs - s) (drop s xs)) i d ≡ getD xs (s + i) d
   rest-at s xs i d h = getD-take (length xs - s) (drop s xs) i d (omega arith) ∙ getD-drop s xs i d
 
+  -- what holds of each of the first n entries holds of m that are lent from s on
+  pub rest-each : (P : A → Type 0) (n m s : ℕ) (xs : List A) (d : A) → n ≤ length xs → s + m ≤ n → ((i : ℕ) → i < n → P (getD xs i d))
+      → (i : ℕ) → i < m → P (getD (take (length xs - s) (drop s xs)) i d)
+  rest-each P n m s xs d l r h i k = rw (rest-at s xs i d (omega arith)) (h (s + i) (omega arith))
+
   -- what stands where
   pub tab-at : (n : ℕ) (f : ℕ → A) (i : ℕ) (d : A) → i < n → getD (tab n f) i d ≡ f i
   unfolding tab

@@ -16,8 +16,8 @@ use Rattle.reorder.proofs.Kept.{kept-of-passed, not-kept}
 use Rattle.reorder.proofs.Check.{kept-decides}
 use Rattle.reorder.proofs.Cross.{clash-decides}
 use Rattle.job.specs.Row.{Row, rowAt}
-use Rattle.job.specs.Rects.{readsOf, writesOf, clashOf}
-use Rattle.job.proofs.Exact.{reads-wide, writes-wide}
+use Rattle.touches.specs.Rects.{readsOf, writesOf, clashOf}
+use Rattle.touches.proofs.Exact.{reads-wide, writes-wide}
 use Rattle.order.specs.Rules.{isKept}
 use Rattle.order.proofs.Entries.{jobs-in}
 

@@ -13,7 +13,7 @@ use Rattle.reorder.specs.Entry.{place}
 use Rattle.reorder.proofs.Entry.{place-lt}
 use Rattle.reorder.proofs.Places.{entry-place}
 use Rattle.job.specs.Row.{rowAt}
-use Rattle.job.specs.Rects.{clashOf}
+use Rattle.touches.specs.Rects.{clashOf}
 use Rattle.order.specs.Rules.{isKept}
 use Rattle.order.specs.Sides.{blockSides, hullSides, overlap, noted}
 use Rattle.order.specs.Window.{Touch, Searched, Walk}

@@ -11,7 +11,7 @@ use Rattle.reorder.specs.Rect.{Rect}
 use Rattle.reorder.proofs.Once.{fresh-of-once}
 use Rattle.reorder.proofs.Check.{once-decides}
 use Rattle.job.specs.Row.{rowAt}
-use Rattle.job.specs.Rects.{clashOf}
+use Rattle.touches.specs.Rects.{clashOf}
 use Rattle.order.specs.Rules.{isKept}
 use Rattle.order.specs.Sides.{sidesOf, blockSides, hullSides, boundsAt}
 use Rattle.order.specs.Window.{Walk}

@@ -6,7 +6,7 @@ use lib.ListN.{length}
 use Rattle.numbers.specs.Limits.{rowWords}
 use Rattle.reorder.specs.Check.{onceB, keptB}
 use Rattle.job.specs.Row.{rowAt}
-use Rattle.job.specs.Rects.{clashOf}
+use Rattle.touches.specs.Rects.{clashOf}
 
 -- how many jobs a plan has: "A job is a row of sixteen 16-bit words"
 abbrev pub jobsIn : List ℕ → ℕ

@@ -8,7 +8,7 @@ use lib.IntN.{ℤ, pos}
 use lib.ListN.{length, replicate}
 use Rattle.reorder.specs.Check.{onceB}
 use Rattle.job.specs.Row.{rowAt}
-use Rattle.job.specs.Rects.{clashOf}
+use Rattle.touches.specs.Rects.{clashOf}
 use Rattle.order.specs.Sides.{blockSides, hullSides, met, noted}
 use Rattle.order.specs.declared.sides.Sides.{Sides}
 

@@ -7,7 +7,7 @@ use clash::hits;
 use clash::rect::Rect;
 ghost use mathlib.Core.Path.{_≡_};
 ghost use mathlib.Core.Bool.{true};
-ghost use Rattle.job.specs.Touches.{blockAt};
+ghost use Rattle.touches.specs.Touches.{blockAt};
 ghost use Rattle.clash.specs.Hull.{one, past, hullOf, onlyIf};
 ghost use Rattle.clash.specs.Rects.{rectOf, Near, Placed};
 ghost use Rattle.order.specs.Sides.{sidesOf};

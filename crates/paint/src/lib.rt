@@ -6,25 +6,15 @@ ghost use lib.IntN.{pos};
 ghost use lib.ListN.{length};
 ghost use Rattle.signed.specs.Range.{inside};
 ghost use Rattle.lists.specs.Fill.{tab};
-ghost use Rattle.taps.specs.Interp.{clip};
 ghost use Rattle.paint.specs.Block.{Whole, Wholes, withDifference, addedAt, Room};
 ghost use Rattle.paint.specs.Painted.{painted};
-
-// x, clipped to 0..m: the larger of x and 0, and then the smaller of that and m.
-fn clipped(x: i32, m: i32) -> i32
-    requires { ⌜ inside (pos 4095) m ≡ true ⌝ }
-    ensures { λ r. ⌜ r ≡ clip m x ⌝ }
-{
-    let y = minmax::select(x < 0, 0, x);
-    minmax::select(m < y, m, y)
-}
 
 // A predicted sample with its difference.
 fn add(v: f32, difference: i16, m: i32) -> f32
     requires { ⌜ Whole v × (inside (pos 4095) m ≡ true) ⌝ }
     ensures { λ r. ⌜ r ≡ withDifference m v difference ⌝ }
 {
-    clipped(v as i32 + difference as i32, m) as f32
+    taps::value::clipped(v as i32 + difference as i32, m) as f32
 }
 
 // A row of predicted samples with their differences.

@@ -14,7 +14,7 @@ use Rattle.edge_filter.specs.Filter.{edge, filtered}
 use Rattle.strength.specs.Strength.{strength}
 use Rattle.setting.specs.Setting.{strengthAbove, strengthLeft}
 use Rattle.strength.specs.Corner.{filteredCorner}
-use Rattle.zones.specs.Zones.{sampleAlong, zone2}
+use Rattle.zone_spec.specs.Zones.{sampleAlong, zone2}
 use Rattle.directional.specs.Directional.{isDown, isAcross}
 use Rattle.fixed_product.specs.Product.{ilog2, digits, over, narrow, rounded, mulFixed}
 use Rattle.reciprocal.specs.Division.{curve, moved, fraction, scaleOf}

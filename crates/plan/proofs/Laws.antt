@@ -21,7 +21,7 @@ use Rattle.reorder.proofs.Test.{fails}
 use Rattle.reorder.proofs.Own.{plan-accepted}
 use Rattle.reorder.proofs.Swap.{length-swapped, swap-accepted}
 use Rattle.job.specs.Row.{rowAt}
-use Rattle.job.specs.Rects.{clashOf}
+use Rattle.touches.specs.Rects.{clashOf}
 use Rattle.job_work.specs.Jobs.{jobs}
 use Rattle.job_work.proofs.Clash.{clash-exact}
 use Rattle.order.specs.Rules.{jobsIn, isOnce, isKept}

@@ -18,7 +18,7 @@ use Rattle.reorder.specs.Check.{onceB, keptB}
 use Rattle.row_words.specs.Mode.{namedMode}
 use Rattle.job.specs.Mode.{rowMode, isMode}
 use Rattle.job.specs.Rules.{hasDifferences, rowAnswer, stands}
-use Rattle.job.specs.Rects.{readsOf, writesOf, clashOf}
+use Rattle.touches.specs.Rects.{readsOf, writesOf, clashOf}
 use Rattle.order.specs.Rules.{isOnce, isKept}
 use Rattle.run_rules.specs.Rules.{isPlan, runAnswer}
 

@@ -11,7 +11,7 @@ use lib.Signed.{ltZ}
 use borrow.Author.Tests.{leb-true, ltb-false, le-ltb}
 use Rattle.signed.specs.Range.{inside, Edge}
 use Rattle.signed.proofs.Range.{inside-abs, pos-inside}
-use Rattle.lists.proofs.Fill.{rest-at}
+use Rattle.lists.proofs.Fill.{rest-at, rest-each}
 use Rattle.taps.specs.F4.{f4}
 use Rattle.taps.specs.Interp.{clip, taps4, taps2, luma, chroma, phase, between}
 
@@ -62,7 +62,7 @@ abbrev pub rest : ℕ → List ℤ → List ℤ
 rest s xs = take (length xs - s) (drop s xs)
 
 pub rest-edge : (v n m s : ℕ) (xs : List ℤ) → n ≤ length xs → s + m ≤ n → Edge v n xs → Edge v m (rest s xs)
-rest-edge v n m s xs l r h i k = rw (rest-at s xs i (pos 0) (omega arith)) (h (s + i) (omega arith))
+rest-edge v n m s xs = rest-each (λ z. inside (pos v) z ≡ true) n m s xs (pos 0)
 
 -- its entries i + t are the whole list's s + i + t
 rest-to : (s : ℕ) (xs : List ℤ) (i t : ℕ) → s + i + t < length xs → getD (rest s xs) (i + t) (pos 0) ≡ getD xs (s + i + t) (pos 0)

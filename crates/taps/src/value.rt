@@ -8,7 +8,7 @@ ghost use Rattle.lists.specs.Block.{sample};
 ghost use Rattle.taps.specs.Interp.{clip, taps4, taps2, Taps};
 
 // The larger of x and 0, and then the smaller of that and m: two steps that the processor has for four numbers at once.
-fn clipped(x: i32, m: i32) -> i32
+pub fn clipped(x: i32, m: i32) -> i32
     requires { ⌜ inside (pos 4095) m ≡ true ⌝ }
     ensures { λ r. ⌜ r ≡ clip m x ⌝ }
 {

@@ -13,7 +13,7 @@ ghost use Rattle.lists.specs.Fill.{tab};
 ghost use Rattle.lists.specs.Block.{rows, sample};
 ghost use Rattle.taps.specs.Quads.{tableOf};
 ghost use Rattle.zone_rows.specs.Listed.{listed, Holds};
-ghost use Rattle.zones.specs.Split.{splitOf};
+ghost use Rattle.zone_spec.specs.Split.{splitOf};
 
 // How many columns of a row are from the left edge: those that t 64ths back lead past the corner.
 fn split_of(w: usize, t: usize) -> usize

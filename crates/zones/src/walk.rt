@@ -11,7 +11,7 @@ ghost use Rattle.lists.specs.Block.{rows, sample};
 ghost use Rattle.taps.specs.Quads.{tableOf};
 ghost use Rattle.taps.specs.Interp.{between};
 ghost use Rattle.zone_rows.specs.Listed.{Holds};
-ghost use Rattle.zones.specs.Split.{splitOf};
+ghost use Rattle.zone_spec.specs.Split.{splitOf};
 
 // The columns of the strip from row r0 on, from the left edge: those before the split of its last row, which is the strip's last to be reached. The walk
 // is left where no row of the strip is still in its left part; the columns that it passed are written.

@@ -11,7 +11,7 @@ ghost use Rattle.lists.specs.Fill.{tab};
 ghost use Rattle.lists.specs.Block.{rows, sample, block};
 ghost use Rattle.taps.specs.Quads.{tableOf};
 ghost use Rattle.zone_rows.specs.Listed.{Holds};
-ghost use Rattle.zones.specs.Either.{either};
+ghost use Rattle.zone_spec.specs.Either.{either};
 
 // The strip from row r0 on.
 fn z2_strip(

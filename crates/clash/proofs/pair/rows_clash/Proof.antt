@@ -1,6 +1,6 @@
 -- `rows_clash` meets its contract: the parts of the plan are its rows. Assumes nothing.
 use mathlib.Core.Path.{_∙_}
-use Rattle.job.specs.Rects.{clashOf}
+use Rattle.touches.specs.Rects.{clashOf}
 use Rattle.clash.proofs.Placed.{row-is}
 use borrow.Author.Needs.{needs}
 use Rattle.clash.proofs.pair.rows_clash.Statement.{statement}

@@ -2,7 +2,7 @@
 use native.Mathlib.Omega.{arith}
 use mathlib.Core.Path.{sym, _∙_, ap}
 use borrow.Author.Tests.{not-true, not-false}
-use Rattle.job.specs.Touches.{blockAt}
+use Rattle.touches.specs.Touches.{blockAt}
 use Rattle.clash.specs.Hull.{onlyIf}
 use Rattle.order.specs.Sides.{sidesOf}
 use borrow.Author.Needs.{needs}

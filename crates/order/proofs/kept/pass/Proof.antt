@@ -3,7 +3,7 @@ use native.Mathlib.Omega.{arith}
 use mathlib.Core.Path.{_≡_, _∙_, ap}
 use mathlib.Core.Bool.{true≢false}
 use Rattle.job.specs.Row.{rowAt}
-use Rattle.job.specs.Touches.{blockAt}
+use Rattle.touches.specs.Touches.{blockAt}
 use Rattle.clash.specs.Hull.{hullOf}
 use Rattle.order.specs.Sides.{blockSides, hullSides, noted}
 use Rattle.clash.proofs.Placed.{row-is}

@@ -5,7 +5,7 @@ use mathlib.Core.Path.{_≡_}
 use mathlib.Core.Bool.{false, true≢false, false≢true}
 use Prim.Native.Nat.{ℕ, _<_, _-_}
 use Rattle.job.specs.Row.{rowAt}
-use Rattle.job.specs.Rects.{clashOf}
+use Rattle.touches.specs.Rects.{clashOf}
 use Rattle.order.specs.Window.{Touch}
 use Rattle.order.proofs.window.one_by_one.Statement.{statement}
 use Rattle.order.proofs.window.one_by_one.Tie as tie

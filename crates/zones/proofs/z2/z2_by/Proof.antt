@@ -15,7 +15,7 @@ use Rattle.lists.specs.Fill.{filled}
 use Rattle.lists.specs.Block.{rows, sample, block}
 use Rattle.lists.proofs.Fill.{filled-none}
 use Rattle.lists.proofs.Block.{filled-rows, part-length}
-use Rattle.zones.specs.Either.{either}
+use Rattle.zone_spec.specs.Either.{either}
 use Rattle.zones.proofs.z2.z2_by.Statement.{statement}
 use Rattle.zones.proofs.z2.z2_by.Tie as tie
 

@@ -20,9 +20,9 @@ use Rattle.lists.proofs.Fill.{tab-same}
 use Rattle.lists.proofs.Block.{rows-at, rows-same}
 use Rattle.taps.specs.Interp.{between}
 use Rattle.zone_rows.specs.Listed.{listed}
-use Rattle.zones.specs.Either.{either}
-use Rattle.zones.specs.Split.{splitOf}
-use Rattle.zones.proofs.Inside.{left-inside}
+use Rattle.zone_spec.specs.Either.{either}
+use Rattle.zone_spec.specs.Split.{splitOf}
+use Rattle.zone_spec.proofs.Inside.{left-inside}
 use Rattle.zones.proofs.z2.z2_strip.Statement.{statement}
 use Rattle.zones.proofs.z2.z2_strip.Tie as tie
 

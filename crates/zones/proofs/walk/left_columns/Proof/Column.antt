@@ -15,7 +15,7 @@ use mir.Facts.{toZ-ofZ}
 use Rattle.lists.specs.Fill.{filled}
 use Rattle.lists.specs.Block.{rows, sample}
 use Rattle.taps.specs.Interp.{between}
-use Rattle.zones.proofs.Inside.{left-inside}
+use Rattle.zone_spec.proofs.Inside.{left-inside}
 use Rattle.zones.proofs.walk.left_columns.Tie as tie
 
 abbrev pub at : Bool → ℤ → ℕ → ℕ → List ℤ → ℕ → ℕ → Float

@@ -12,10 +12,10 @@ use Rattle.signed.specs.Range.{inside}
 use Rattle.lists.specs.Block.{block}
 use Rattle.lists.proofs.Block.{block-same}
 use Rattle.edge_filter.specs.Filter.{padded}
-use Rattle.zones.specs.Zones.{zone1, zone2, zone3}
+use Rattle.zone_spec.specs.Zones.{zone1, zone2, zone3}
 use Rattle.zone_rows.specs.Listed.{ahead}
-use Rattle.zones.specs.Either.{either}
-use Rattle.zones.proofs.Along.{along-listed, zone2-listed}
+use Rattle.zone_spec.specs.Either.{either}
+use Rattle.zone_spec.proofs.Along.{along-listed, zone2-listed}
 
 -- one edge
 module _ (n size : ℕ) (e : ℕ → ℤ) (xs : List ℤ) (holds : (j : ℕ) → j < size → getD xs j (pos 0) ≡ padded 4 n e j)

@@ -8,9 +8,9 @@ use native.Mathlib.Omega.{arith}
 use lib.Dec.{leb, ltb}
 use lib.IntN.{ℤ}
 use borrow.Author.Tests.{ltb-true, ltb-false, le-leb, lt-leb}
-use Rattle.zones.specs.Zones.{backAlong, zone2}
-use Rattle.zones.specs.Either.{back, either}
-use Rattle.zones.specs.Split.{splitOf}
+use Rattle.zone_spec.specs.Zones.{backAlong, zone2}
+use Rattle.zone_spec.specs.Either.{back, either}
+use Rattle.zone_spec.specs.Split.{splitOf}
 
 module _ (w r c dx : ℕ) (p : 0 < dx) (q : c < w) where
   -- how many columns of row r are from the left edge

@@ -14,9 +14,9 @@ use Rattle.taps.specs.Interp.{between}
 use Rattle.taps.proofs.Laws.{between-move}
 use Rattle.taps.proofs.Flat.{between-flat}
 use Rattle.edge_filter.specs.Filter.{padded}
-use Rattle.zones.specs.Zones.{sampleAlong, zone2}
+use Rattle.zone_spec.specs.Zones.{sampleAlong, zone2}
 use Rattle.zone_rows.specs.Listed.{listed}
-use Rattle.zones.specs.Either.{either}
+use Rattle.zone_spec.specs.Either.{either}
 
 -- past the last place the interpolation gives its entry too
 pub along-is : (lum : Bool) (v n : ℕ) (e : ℕ → ℤ) (q : ℕ) → inside (pos v) (e n) ≡ true → sampleAlong lum (pos v) n e q ≡ between lum (pos v) (padded 1 n e) q

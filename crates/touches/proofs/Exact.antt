@@ -9,13 +9,13 @@ use Rattle.edge_line.proofs.Every.{and-of}
 use Rattle.block_spec.specs.declared.spec.IntraRefSpec.{IntraRefSpec}
 use Rattle.block_spec.specs.Placed.{Standing}
 use Rattle.reorder.specs.Rect.{InAny, AllWide}
 use Rattle.job.specs.Row.{Row, specOf}
 use Rattle.job.specs.Rules.{stands}
-use Rattle.job.specs.Touches.{Reads, Writes}
-use Rattle.job.specs.Rects.{runsOf, readsOf, writesOf}
+use Rattle.touches.specs.Touches.{Reads, Writes}
+use Rattle.touches.specs.Rects.{runsOf, readsOf, writesOf}
 use Rattle.job.proofs.Stands.{standing}
-use Rattle.job.proofs.Places.{rect-if, wide-if}
-use Rattle.job.proofs.Runs.{run-of-read, read-of-run}
+use Rattle.touches.proofs.Places.{rect-if, wide-if}
+use Rattle.touches.proofs.Runs.{run-of-read, read-of-run}
 
 -- a job that does not stand has no runs
 no-runs : (W : ℕ) (s : IntraRefSpec) (p : ℕ) → ¬ (InAny W (runsOf false s) p)

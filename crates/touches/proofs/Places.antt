@@ -7,8 +7,8 @@ use native.Mathlib.Omega.{arith}
 use lib.IntN.{ℤ}
 use Rattle.block_spec.specs.Behind.{Behind, place, number}
 use Rattle.reorder.specs.Rect.{Wide, In}
-use Rattle.job.specs.Touches.{IsAt}
-use Rattle.job.specs.Rects.{rectIf}
+use Rattle.touches.specs.Touches.{IsAt}
+use Rattle.touches.specs.Rects.{rectIf}
 
 -- ---- a rectangle that may be empty
 

@@ -14,9 +14,9 @@ use Rattle.block_spec.proofs.Behind.{neighbours, above-there, above-by-left, ab
 use Rattle.block_spec.proofs.Behind.{corner-by-both, corner-by-above, corner-by-left, corner-by-base}
 use Rattle.block_spec.specs.Placed.{Standing}
 use Rattle.reorder.specs.Rect.{InAny}
-use Rattle.job.specs.Touches.{Read, by-above, by-left, by-corner}
-use Rattle.job.specs.Rects.{runsOf}
-use Rattle.job.proofs.Places.{rect-if, is-at, at-is, at-none}
+use Rattle.touches.specs.Touches.{Read, by-above, by-left, by-corner}
+use Rattle.touches.specs.Rects.{runsOf}
+use Rattle.touches.proofs.Places.{rect-if, is-at, at-is, at-none}
 
 module _ (W H : ℕ) (s : IntraRefSpec) (g : Standing W H s) (p : ℕ) where
   -- ways into the five runs

@@ -8,7 +8,7 @@ use lib.IntN.{ℤ, pos}
 use Rattle.signed.specs.Range.{inside}
 use Rattle.taps.proofs.Inside.{between-inside}
 use Rattle.edge_filter.proofs.Filtered.{one-of}
-use Rattle.zones.specs.Zones.{sampleAlong, zone2}
+use Rattle.zone_spec.specs.Zones.{sampleAlong, zone2}
 
 module _ (M : ℕ) where
   abbrev In : ℤ → Type 0
