@@ -12,7 +12,7 @@ use Rattle.numbers.proofs.Agree.{size-all}
 use Rattle.signed.proofs.Range.{and-both}
 use Rattle.refusals.proofs.Ladder.{AllKept}
 use Rattle.block_spec.specs.declared.spec.IntraRefSpec.{IntraRefSpec}
-use Rattle.block_spec.specs.Rules.{inRange, isPlane, isInside, isReach, hasNeighbours, sizeRules, placeRules}
+use Rattle.block_spec.specs.Rules.{isPlaneSide, isPlane, isInside, isReach, hasNeighbours, sizeRules, placeRules}
 use Rattle.block_spec.specs.Placed.{Standing, Placed}
 
 pub size-in : (B : ℕ) → isSize B ≡ true → (1 ≤ B) × (B ≤ 64)
@@ -45,15 +45,15 @@ standing W H s sizes places =
       is-base = places .1 .1 .0;
     }
 
-side : (n : ℕ) → inRange n ≡ true → n ≤ 4096
+side : (n : ℕ) → isPlaneSide n ≡ true → n ≤ 4096
 side n e = leb-true _ _ (and-both (leb 4 n) (leb n 4096) e .1)
 
 -- 20 is kept
 pub plane-is : (W H n : ℕ) → isPlane W H n ≡ true → (W ≤ 4096) × (H ≤ 4096) × (n ≡ W * H)
 unfolding isPlane
 plane-is W H n e =
-    let p = and-both (inRange W && inRange H) (eqb n (W * H)) e in
-    let q = and-both (inRange W) (inRange H) (p .0) in
+    let p = and-both (isPlaneSide W && isPlaneSide H) (eqb n (W * H)) e in
+    let q = and-both (isPlaneSide W) (isPlaneSide H) (p .0) in
     (side W (q .0), side H (q .1), eqb-true _ _ (p .1))
 
 pub placed : (n W H : ℕ) (s : IntraRefSpec) → isPlane W H n ≡ true → Standing W H s → Placed n W s

@@ -12,11 +12,11 @@ use Rattle.refusals.specs.Ladder.{Rule, _else_}
 use Rattle.block_spec.specs.declared.spec.IntraRefSpec.{IntraRefSpec}
 
 -- "A plane is W by H samples of f32, W and H from 4 to 4,096." 20: "W or H out of range, or the plane's length is not W x H"
-abbrev pub inRange : ℕ → Bool
-inRange n = leb leastSide n && leb n mostSide
+abbrev pub isPlaneSide : ℕ → Bool
+isPlaneSide n = leb leastSide n && leb n mostSide
 
 unfoldable pub isPlane : ℕ → ℕ → ℕ → Bool
-isPlane W H n = inRange W && inRange H && eqb n (W * H)
+isPlane W H n = isPlaneSide W && isPlaneSide H && eqb n (W * H)
 
 -- "x + B > W or y + B > H"
 unfoldable pub isInside : ℕ → ℕ → IntraRefSpec → Bool

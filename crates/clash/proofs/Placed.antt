@@ -7,14 +7,14 @@ use lib.ListN.{length, take, drop, length-take, length-drop}
 use Rattle.block_spec.specs.declared.spec.IntraRefSpec.{IntraRefSpec}
 use Rattle.block_spec.specs.Placed.{Standing}
 use Rattle.job.specs.Row.{rowAt}
-use Rattle.clash.specs.Rects.{Near, Placed}
+use Rattle.clash.specs.Rects.{Near, HullFits}
 use Rattle.clash.proofs.Around.{hull-columns, hull-rows}
 
 module _ (W H : ℕ) (s : IntraRefSpec) (g : Standing W H s) where
   pub near-of : Near s
   near-of = record { above = λ e. g .above e .0; left = λ e. g .left e .0 }
 
-  pub placed-of : W ≤ 4096 → H ≤ 4096 → Placed s
+  pub placed-of : W ≤ 4096 → H ≤ 4096 → HullFits s
   placed-of w h = record { near = near-of; across = omega (arith, hull-columns W H s g); down = omega (arith, hull-rows W H s g) }
 
 -- row i, as the code cuts it out

@@ -21,7 +21,7 @@ pub record Near (s : IntraRefSpec) : Type 0 where
   pub left : s .«have_left» ≡ true → 1 ≤ s .x
 
 -- its hull, and so its block, lies within 15 bits
-pub record Placed (s : IntraRefSpec) : Type 0 where
+pub record HullFits (s : IntraRefSpec) : Type 0 where
   pub near : Near s
   pub across : hullOf s .x + hullOf s .w ≤ 32767
   pub down : hullOf s .y + hullOf s .h ≤ 32767

@@ -10,9 +10,9 @@ use Rattle.refusals.proofs.Ladder.{all-kept}
 use Rattle.colour_rules.specs.Rules.{predictRules, predictAnswer}
 use Rattle.colour_rules.specs.declared.block.Block.{Block}
 use Rattle.colour_rules.proofs.Granted.{placed}
-use Rattle.colour_block.specs.Accepted.{Accepted}
+use Rattle.colour_block.specs.Accepted.{BlockAccepted}
 
-pub accepted : (luma : List ℤ) (b : Block) (n : ℕ) → predictAnswer luma b n ≡ Done → Accepted luma b n
+pub accepted : (luma : List ℤ) (b : Block) (n : ℕ) → predictAnswer luma b n ≡ Done → BlockAccepted luma b n
 unfolding predictAnswer
 accepted luma b n e =
     let all = all-kept (predictRules luma b n) tt e in

@@ -10,16 +10,16 @@ use borrow.Author.Tests.{lt-ltb, le-ltb}
 use Rattle.colour_row.specs.Mixed.{Luma, mixed}
 use Rattle.colour_row.specs.Runs.{at, RunsAt}
 use Rattle.colour_row.specs.declared.mix.Mix.{Mix}
-use Rattle.colour_block.specs.Lines.{tap, LumaRow}
+use Rattle.colour_block.specs.Lines.{directionEntry, LumaRow}
 
 module _ (k : Mix) (luma : List ℤ) (s step lead n : ℕ) (l : LumaRow k luma s step lead n) where
-  early : (i : ℕ) → i < lead → tap s step lead i ≡ s + i
+  early : (i : ℕ) → i < lead → directionEntry s step lead i ≡ s + i
   early i h = simp (lt-ltb i lead h)
 
-  late : (i : ℕ) → tap s step lead (lead + i) ≡ s + lead - step + i
+  late : (i : ℕ) → directionEntry s step lead (lead + i) ≡ s + lead - step + i
   late i = simp (le-ltb (lead + i) lead (omega arith)) (omega (arith, l .behind))
 
-  flat : lead ≡ 0 → (i : ℕ) → tap s step lead i ≡ s - step + i
+  flat : lead ≡ 0 → (i : ℕ) → directionEntry s step lead i ≡ s - step + i
   flat e i = simp (le-ltb i lead (omega arith)) (omega (arith, l .behind))
 
   head-runs : RunsAt k luma s s lead
@@ -56,7 +56,7 @@ module _ (k : Mix) (luma : List ℤ) (s step lead n : ℕ) (l : LumaRow k luma s
 
   -- the row's samples
   abbrev pub sampleAt : ℕ → ℤ
-  sampleAt i = mixed k (at luma (tap s step lead i)) (at luma (s + i))
+  sampleAt i = mixed k (at luma (directionEntry s step lead i)) (at luma (s + i))
 
   pub head-same : (i : ℕ) → i < lead → mixed k (at luma (s + i)) (at luma (s + i)) ≡ sampleAt (0 + i)
   head-same i h =

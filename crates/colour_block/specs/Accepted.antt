@@ -8,13 +8,13 @@ use lib.ListN.{length}
 use Rattle.numbers.specs.Colour.{isColour}
 use Rattle.numbers.specs.Depth.{isDepth}
 use Rattle.colour_terms.specs.Terms.{entry}
-use Rattle.colour_rules.specs.Placed.{Placed}
+use Rattle.colour_rules.specs.Placed.{InReference}
 use Rattle.colour_rules.specs.Rules.{isLumaInRange}
 use Rattle.colour_rules.specs.declared.block.Block.{Block}
 
-pub record Accepted (luma : List ℤ) (b : Block) (n : ℕ) : Type 0 where
+pub record BlockAccepted (luma : List ℤ) (b : Block) (n : ℕ) : Type 0 where
   pub depth : isDepth (b .d) ≡ true
   pub colour : isColour (b .direction) ≡ true
-  pub place : Placed b (length luma)
+  pub place : InReference b (length luma)
   pub long : b .width * b .height ≤ n
   pub read : isLumaInRange (entry luma) b ≡ true

@@ -13,8 +13,8 @@ use Rattle.colour_row.specs.declared.mix.Mix.{Mix}
 use Rattle.colour_rules.specs.declared.block.Block.{Block}
 
 -- where row j of the block starts
-abbrev pub startOf : Block → ℕ → ℕ
-startOf b j = (b .«above_lines» + j) * stride + b .«left_lines»
+abbrev pub rowStart : Block → ℕ → ℕ
+rowStart b j = (b .«above_lines» + j) * stride + b .«left_lines»
 
 -- so many samples at the start of a row take the centre for want of a neighbour
 unfoldable pub leadOf : Block → ℕ
@@ -29,17 +29,17 @@ unfoldable pub stepOf : Block → ℕ → ℕ
 stepOf b j = upAt b j * stride + columnsLeft (theColour (b .direction))
 
 -- the direction's entry for column i of a row that starts at s
-abbrev pub tap : ℕ → ℕ → ℕ → ℕ → ℕ
-tap s step lead i = cond (ltb i lead) (s + i) (s + i - step)
+abbrev pub directionEntry : ℕ → ℕ → ℕ → ℕ → ℕ
+directionEntry s step lead i = cond (ltb i lead) (s + i) (s + i - step)
 
 -- the luma of a row of n samples
 pub record LumaRow (k : Mix) (luma : List ℤ) (s step lead n : ℕ) : Type 0 where
   pub leads : lead ≤ n
   pub behind : step ≤ s + lead
   pub long : s + n ≤ length luma
-  pub near-in : (i : ℕ) → i < n → Luma k (at luma (tap s step lead i))
+  pub near-in : (i : ℕ) → i < n → Luma k (at luma (directionEntry s step lead i))
   pub centre-in : (i : ℕ) → i < n → Luma k (at luma (s + i))
 
 -- the sample at row r and column c, as the code finds it
 abbrev pub found : Mix → List ℤ → Block → ℕ → ℕ → ℤ
-found k luma b r c = mixed k (at luma (tap (startOf b r) (stepOf b r) (leadOf b) c)) (at luma (startOf b r + c))
+found k luma b r c = mixed k (at luma (directionEntry (rowStart b r) (stepOf b r) (leadOf b) c)) (at luma (rowStart b r + c))

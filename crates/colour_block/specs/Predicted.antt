@@ -16,17 +16,17 @@ use Rattle.colour_rules.specs.Rules.{predictAnswer}
 use Rattle.colour_rules.specs.declared.block.Block.{Block}
 
 -- the sample at row r and column c, where `at` tells luma by column and row
-abbrev pub predictedAt : (ℕ → ℕ → ℤ) → Block → ℤ → ℤ → ℤ → ℕ → ℕ → ℤ
-predictedAt at b p0 p1 p2 r c =
+abbrev pub chromaAt : (ℕ → ℕ → ℤ) → Block → ℤ → ℤ → ℤ → ℕ → ℕ → ℤ
+chromaAt at b p0 p1 p2 r c =
     clipped (b .d) (total (b .d) p0 p1 (thirdOf (b .d) p2) (valueAt at (directionAt b c r)) (valueAt at (centreAt b c r)))
 
 -- the block, row by row; what follows it is as it was
-unfoldable pub predictedBlock : List ℤ → Block → ℤ → ℤ → ℤ → List ℤ → List ℤ
-predictedBlock luma b p0 p1 p2 out = filled (b .height * b .width) (rows (b .width) (predictedAt (entry luma) b p0 p1 p2)) out
+unfoldable pub chromaBlock : List ℤ → Block → ℤ → ℤ → ℤ → List ℤ → List ℤ
+chromaBlock luma b p0 p1 p2 out = filled (b .height * b .width) (rows (b .width) (chromaAt (entry luma) b p0 p1 p2)) out
 
 -- a block by the numbers of its call
-abbrev pub blockOf : Window → ℕ → ℕ → Bool → Bool → ℕ → ℕ → Block
-blockOf w width height haveTop haveLeft direction D = record {
+abbrev pub blockFrom : Window → ℕ → ℕ → Bool → Bool → ℕ → ℕ → Block
+blockFrom w width height haveTop haveLeft direction D = record {
   «ref_width» = w .«ref_width»;
   «ref_height» = w .«ref_height»;
   «above_lines» = w .«above_lines»;
@@ -43,5 +43,5 @@ blockOf w width height haveTop haveLeft direction D = record {
 abbrev pub PredictedBlock : List ℤ → Block → ℤ → ℤ → ℤ → List ℤ → List ℤ → Answer → Type 0
 PredictedBlock luma b p0 p1 p2 before after r =
     Promise (predictAnswer luma b (length before))
-    (lent (predictAnswer luma b (length before)) (predictedBlock luma b p0 p1 p2 before) before)
+    (lent (predictAnswer luma b (length before)) (chromaBlock luma b p0 p1 p2 before) before)
     r after

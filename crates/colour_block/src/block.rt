@@ -10,12 +10,12 @@ ghost use lib.ListN.{length};
 ghost use Rattle.numbers.specs.Colour.{isColour};
 ghost use Rattle.lists.specs.Fill.{tab, filled};
 ghost use Rattle.lists.specs.Block.{rows};
-ghost use Rattle.colour_row.specs.Mixed.{Ready, mixed};
+ghost use Rattle.colour_row.specs.Mixed.{MixReady, mixed};
 ghost use Rattle.colour_row.specs.Runs.{at};
 ghost use Rattle.colour_row.specs.Wides.{Wides};
-ghost use Rattle.colour_block.specs.Accepted.{Accepted};
-ghost use Rattle.colour_block.specs.Lines.{leadOf, upAt, stepOf, tap, LumaRow, found};
-ghost use Rattle.colour_block.specs.Predicted.{predictedBlock};
+ghost use Rattle.colour_block.specs.Accepted.{BlockAccepted};
+ghost use Rattle.colour_block.specs.Lines.{leadOf, upAt, stepOf, directionEntry, LumaRow, found};
+ghost use Rattle.colour_block.specs.Predicted.{chromaBlock};
 
 // How many samples of a row take the centre for want of a neighbour.
 fn lead_of(b: Block) -> usize
@@ -60,8 +60,8 @@ fn led_line(
     t1: &[i64],
     row: &mut [i32],
 )
-    requires { ⌜ Ready k × Wides k (now t0) (now t1) × LumaRow k (now luma) s step lead (length (now row)) ⌝ }
-    ensures { λ _. ⌜ now (row .exit) ≡ tab (length (now (row .entry))) (λ i. mixed k (at (now (luma .entry)) (tap s step lead i)) (at (now (luma .entry)) (s + i))) ⌝ }
+    requires { ⌜ MixReady k × Wides k (now t0) (now t1) × LumaRow k (now luma) s step lead (length (now row)) ⌝ }
+    ensures { λ _. ⌜ now (row .exit) ≡ tab (length (now (row .entry))) (λ i. mixed k (at (now (luma .entry)) (directionEntry s step lead i)) (at (now (luma .entry)) (s + i))) ⌝ }
 {
     let n = row.len();
     let o = 0;
@@ -81,8 +81,8 @@ fn line(
     t1: &[i64],
     row: &mut [i32],
 )
-    requires { ⌜ Ready k × Wides k (now t0) (now t1) × LumaRow k (now luma) s step lead (length (now row)) ⌝ }
-    ensures { λ _. ⌜ now (row .exit) ≡ tab (length (now (row .entry))) (λ i. mixed k (at (now (luma .entry)) (tap s step lead i)) (at (now (luma .entry)) (s + i))) ⌝ }
+    requires { ⌜ MixReady k × Wides k (now t0) (now t1) × LumaRow k (now luma) s step lead (length (now row)) ⌝ }
+    ensures { λ _. ⌜ now (row .exit) ≡ tab (length (now (row .entry))) (λ i. mixed k (at (now (luma .entry)) (directionEntry s step lead i)) (at (now (luma .entry)) (s + i))) ⌝ }
 {
     if lead == 0 {
         row::row_at(luma, s - step, s, k, t0, t1, row);
@@ -93,8 +93,8 @@ fn line(
 
 // The block's rows, in out[..width * height]; t0 and t1 are its parameters' tables.
 fn lines(luma: &[i32], b: Block, k: Mix, t0: &[i64], t1: &[i64], out: &mut [i32])
-    requires { ⌜ Accepted (now luma) b (length (now out)) ⌝ }
-    requires { ⌜ Ready k × (k .bits ≡ b .d) × Wides k (now t0) (now t1) ⌝ }
+    requires { ⌜ BlockAccepted (now luma) b (length (now out)) ⌝ }
+    requires { ⌜ MixReady k × (k .bits ≡ b .d) × Wides k (now t0) (now t1) ⌝ }
     ensures { λ _. ⌜ now (out .exit) ≡ filled (b .height * b .width) (rows (b .width) (found k (now (luma .entry)) b)) (now (out .entry)) ⌝ }
 {
     let width = b.width;
@@ -114,8 +114,8 @@ fn lines(luma: &[i32], b: Block, k: Mix, t0: &[i64], t1: &[i64], out: &mut [i32]
 
 // The same with tables, which are worked out first, in the room that t0 and t1 lend.
 fn wide_lines(luma: &[i32], b: Block, k: Mix, t0: &mut [i64], t1: &mut [i64], out: &mut [i32])
-    requires { ⌜ Accepted (now luma) b (length (now out)) ⌝ }
-    requires { ⌜ Ready k × (k .bits ≡ b .d) × (length (now t0) ≡ 24) × (length (now t1) ≡ 24) ⌝ }
+    requires { ⌜ BlockAccepted (now luma) b (length (now out)) ⌝ }
+    requires { ⌜ MixReady k × (k .bits ≡ b .d) × (length (now t0) ≡ 24) × (length (now t1) ≡ 24) ⌝ }
     ensures { λ _. ⌜ now (out .exit) ≡ filled (b .height * b .width) (rows (b .width) (found k (now (luma .entry)) b)) (now (out .entry)) ⌝ }
 {
     product_table::fill(k.p0, t0);
@@ -125,8 +125,8 @@ fn wide_lines(luma: &[i32], b: Block, k: Mix, t0: &mut [i64], t1: &mut [i64], ou
 
 // The same, with room for the tables.
 fn tabled(luma: &[i32], b: Block, k: Mix, out: &mut [i32])
-    requires { ⌜ Accepted (now luma) b (length (now out)) ⌝ }
-    requires { ⌜ Ready k × (k .bits ≡ b .d) ⌝ }
+    requires { ⌜ BlockAccepted (now luma) b (length (now out)) ⌝ }
+    requires { ⌜ MixReady k × (k .bits ≡ b .d) ⌝ }
     ensures { λ _. ⌜ now (out .exit) ≡ filled (b .height * b .width) (rows (b .width) (found k (now (luma .entry)) b)) (now (out .entry)) ⌝ }
 {
     let mut t0 = [0i64; 24];
@@ -136,8 +136,8 @@ fn tabled(luma: &[i32], b: Block, k: Mix, out: &mut [i32])
 
 // The block, in out[..width * height].
 pub fn predict_into(luma: &[i32], b: Block, p0: i32, p1: i32, p2: i32, out: &mut [i32])
-    requires { ⌜ Accepted (now luma) b (length (now out)) ⌝ }
-    ensures { λ _. ⌜ now (out .exit) ≡ predictedBlock (now (luma .entry)) b p0 p1 p2 (now (out .entry)) ⌝ }
+    requires { ⌜ BlockAccepted (now luma) b (length (now out)) ⌝ }
+    ensures { λ _. ⌜ now (out .exit) ≡ chromaBlock (now (luma .entry)) b p0 p1 p2 (now (out .entry)) ⌝ }
 {
     let k = Mix::of(b.d, p0, p1, p2);
     if k.short {

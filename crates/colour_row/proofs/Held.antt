@@ -17,10 +17,10 @@ use Rattle.fixed_product.proofs.Thru.{thru}
 use Rattle.product_table.proofs.Served.{half-small}
 use Rattle.colour_terms.specs.Terms.{eighth, squared}
 use Rattle.colour_terms.proofs.Most.{most-all, depth-some, eighth-in, squared-in}
-use Rattle.colour_row.specs.Mixed.{Ready, Short, Luma}
+use Rattle.colour_row.specs.Mixed.{MixReady, Short, Luma}
 use Rattle.colour_row.specs.declared.mix.Mix.{Mix}
 
-module _ (k : Mix) (r : Ready k) where
+module _ (k : Mix) (r : MixReady k) where
   within : (z : ℤ) (n : ℕ) → n ≤ 2 ^ 29 → (d : ℤ) → z ≡ d → natAbs d ≤ n → thru z ≡ z
   within z n l d e h = back-abs w32 z (omega (arith, subst (λ x. natAbs x ≤ n) (sym e) h))
 

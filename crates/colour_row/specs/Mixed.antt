@@ -16,7 +16,7 @@ pub record Short (k : Mix) : Type 0 where
   pub first : most (k .bits) < shortLimit (k .p0)
   pub second : most (k .bits) < shortLimit (k .p1)
 
-pub record Ready (k : Mix) : Type 0 where
+pub record MixReady (k : Mix) : Type 0 where
   pub depth : isDepth (k .bits) ≡ true
   pub mid : k .mid ≡ pos (middle (k .bits))
   pub max : k .max ≡ pos (most (k .bits))

@@ -6,7 +6,7 @@ ghost use mathlib.Core.Bool.{true, _&&_};
 ghost use lib.Dec.{ltb};
 ghost use lib.IntN.{pos};
 ghost use Rattle.numbers.specs.Depth.{isDepth, most};
-ghost use Rattle.colour_row.specs.Mixed.{Ready, MixOf};
+ghost use Rattle.colour_row.specs.Mixed.{MixReady, MixOf};
 
 // bits is D, mid 2^(D-1) and max M. third is what the third term gives. half0 and half1 round the products by p0 and p1. short says that every
 // second factor of the block is below both limits, so that the short product serves.
@@ -44,7 +44,7 @@ impl Mix {
     // What a block of depth d with these parameters needs; mid is half of M + 1.
     pub fn of(d: u32, p0: i32, p1: i32, p2: i32) -> Mix
         requires { ⌜ isDepth d ≡ true ⌝ }
-        ensures { λ r. ⌜ Ready r × MixOf d p0 p1 p2 r ⌝ }
+        ensures { λ r. ⌜ MixReady r × MixOf d p0 p1 p2 r ⌝ }
     {
         let m = max_of(d);
         let mid = (m + 1) >> 1;

@@ -5,13 +5,13 @@ ghost use mathlib.Core.Path.{_≡_};
 ghost use Prim.Native.Nat.{_+_};
 ghost use lib.ListN.{length};
 ghost use Rattle.lists.specs.Fill.{tab};
-ghost use Rattle.colour_row.specs.Mixed.{Ready, Short, mixed};
+ghost use Rattle.colour_row.specs.Mixed.{MixReady, Short, mixed};
 ghost use Rattle.colour_row.specs.Wides.{Both, Wides};
 ghost use Rattle.colour_row.specs.Runs.{at, Runs, RunsAt};
 
 // A row of a block whose products are all short: no branch inside.
 fn short_row(near: &[i32], centre: &[i32], k: Mix, row: &mut [i32])
-    requires { ⌜ Ready k × Short k × Runs k (now near) (now centre) (length (now row)) ⌝ }
+    requires { ⌜ MixReady k × Short k × Runs k (now near) (now centre) (length (now row)) ⌝ }
     ensures { λ _. ⌜ now (row .exit) ≡ tab (length (now (row .entry))) (λ i. mixed k (at (now (near .entry)) i) (at (now (centre .entry)) i)) ⌝ }
 {
     let mut i = 0;
@@ -23,7 +23,7 @@ fn short_row(near: &[i32], centre: &[i32], k: Mix, row: &mut [i32])
 
 // A row of any block, whose parameters' tables are t0 and t1: no branch inside.
 fn wide_row(near: &[i32], centre: &[i32], k: Mix, t0: &[i64], t1: &[i64], row: &mut [i32])
-    requires { ⌜ Ready k × Both k (now t0) (now t1) × Runs k (now near) (now centre) (length (now row)) ⌝ }
+    requires { ⌜ MixReady k × Both k (now t0) (now t1) × Runs k (now near) (now centre) (length (now row)) ⌝ }
     ensures { λ _. ⌜ now (row .exit) ≡ tab (length (now (row .entry))) (λ i. mixed k (at (now (near .entry)) i) (at (now (centre .entry)) i)) ⌝ }
 {
     let mut i = 0;
@@ -35,7 +35,7 @@ fn wide_row(near: &[i32], centre: &[i32], k: Mix, t0: &[i64], t1: &[i64], row: &
 
 // The row, by the product that serves.
 fn either_row(near: &[i32], centre: &[i32], k: Mix, t0: &[i64], t1: &[i64], row: &mut [i32])
-    requires { ⌜ Ready k × Wides k (now t0) (now t1) × Runs k (now near) (now centre) (length (now row)) ⌝ }
+    requires { ⌜ MixReady k × Wides k (now t0) (now t1) × Runs k (now near) (now centre) (length (now row)) ⌝ }
     ensures { λ _. ⌜ now (row .exit) ≡ tab (length (now (row .entry))) (λ i. mixed k (at (now (near .entry)) i) (at (now (centre .entry)) i)) ⌝ }
 {
     if k.short {
@@ -55,7 +55,7 @@ pub fn row_at(
     t1: &[i64],
     row: &mut [i32],
 )
-    requires { ⌜ Ready k × Wides k (now t0) (now t1) × RunsAt k (now luma) near centre (length (now row)) ⌝ }
+    requires { ⌜ MixReady k × Wides k (now t0) (now t1) × RunsAt k (now luma) near centre (length (now row)) ⌝ }
     ensures { λ _. ⌜ now (row .exit) ≡ tab (length (now (row .entry))) (λ i. mixed k (at (now (luma .entry)) (near + i)) (at (now (luma .entry)) (centre + i))) ⌝ }
 {
     either_row(&luma[near..], &luma[centre..], k, t0, t1, row);

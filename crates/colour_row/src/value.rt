@@ -6,7 +6,7 @@ ghost use lib.IntN.{pos, natAbs, _+ℤ_};
 ghost use Rattle.fixed_product.specs.Product.{mulFixed, shortLimit};
 ghost use Rattle.product_table.specs.Wide.{halfOf};
 ghost use Rattle.colour_row.specs.Sample.{clipTo, clipped};
-ghost use Rattle.colour_row.specs.Mixed.{Ready, Short, Luma, mixed};
+ghost use Rattle.colour_row.specs.Mixed.{MixReady, Short, Luma, mixed};
 ghost use Rattle.colour_row.specs.Wides.{Both};
 
 // x clipped to 0..m.
@@ -32,7 +32,7 @@ fn short(a: i32, n: i32, half: i32) -> i32
 
 // The sum of what the terms give, clipped.
 fn sum(x: i32, y: i32, k: Mix) -> i32
-    requires { ⌜ Ready k × (natAbs x ≤ 2 ^ 29) × (natAbs y ≤ 2 ^ 29) ⌝ }
+    requires { ⌜ MixReady k × (natAbs x ≤ 2 ^ 29) × (natAbs y ≤ 2 ^ 29) ⌝ }
     ensures { λ r. ⌜ r ≡ clipped (k .bits) (x +ℤ y +ℤ k .third) ⌝ }
 {
     clip(x + y + k.third, k.max)
@@ -40,7 +40,7 @@ fn sum(x: i32, y: i32, k: Mix) -> i32
 
 // A sample of a block whose products are all short.
 pub fn short_sample(n: i32, c: i32, k: Mix) -> i32
-    requires { ⌜ Ready k × Short k × Luma k n × Luma k c ⌝ }
+    requires { ⌜ MixReady k × Short k × Luma k n × Luma k c ⌝ }
     ensures { λ r. ⌜ r ≡ mixed k n c ⌝ }
 {
     let e = colour_terms::eighth(n);
@@ -50,7 +50,7 @@ pub fn short_sample(n: i32, c: i32, k: Mix) -> i32
 
 // A sample of any block, whose parameters' tables are t0 and t1.
 pub fn wide_sample(n: i32, c: i32, k: Mix, t0: &[i64], t1: &[i64]) -> i32
-    requires { ⌜ Ready k × Both k (now t0) (now t1) × Luma k n × Luma k c ⌝ }
+    requires { ⌜ MixReady k × Both k (now t0) (now t1) × Luma k n × Luma k c ⌝ }
     ensures { λ r. ⌜ r ≡ mixed k n c ⌝ }
 {
     let e = colour_terms::eighth(n);

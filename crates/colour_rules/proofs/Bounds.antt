@@ -6,7 +6,7 @@ use native.Mathlib.Omega.{arith}
 use Rattle.numbers.specs.Colour.{theColour, rowsUp, columnsLeft}
 use Rattle.colour_terms.specs.Terms.{stride}
 use Rattle.colour_rules.specs.Area.{upOf, besideOf, Area}
-use Rattle.colour_rules.specs.Placed.{Placed}
+use Rattle.colour_rules.specs.Placed.{InReference}
 use Rattle.colour_rules.specs.declared.block.Block.{Block}
 use Rattle.colour_rules.proofs.Before.{rows-one, columns-one}
 
@@ -22,7 +22,7 @@ pub reach-most : (there : Bool) (back lines : ℕ) → back ≤ 1 → (there ≡
 reach-most true back lines h k = omega (arith, k refl)
 reach-most false back lines h k = omega arith
 
-module _ (b : Block) (n : ℕ) (g : Placed b n) where
+module _ (b : Block) (n : ℕ) (g : InReference b n) where
   abbrev top : ℕ
   top = b .«above_lines»
 

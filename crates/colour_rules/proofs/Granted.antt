@@ -8,8 +8,8 @@ use Rattle.signed.proofs.Range.{and-both}
 use Rattle.colour_terms.specs.Reference.{isReference, isLines}
 use Rattle.colour_terms.specs.Terms.{stride}
 use Rattle.colour_terms.proofs.Granted.{reference-all, lines-all}
-use Rattle.colour_rules.specs.Rules.{largestSide, isSide, isPlaced, hasLine, hasNeighbours}
-use Rattle.colour_rules.specs.Placed.{Placed}
+use Rattle.colour_rules.specs.Rules.{largestSide, isSide, isPlaced, hasLine, hasLines}
+use Rattle.colour_rules.specs.Placed.{InReference}
 use Rattle.colour_rules.specs.declared.block.Block.{Block}
 
 pub side-all : (n : ℕ) → isSide n ≡ true → (1 ≤ n) × (n ≤ largestSide)
@@ -21,8 +21,8 @@ unfolding hasLine
 line-there there lines e t = leb-true 1 lines (subst (λ x. (not x || leb 1 lines) ≡ true) t e)
 
 pub placed : (b : Block) (n : ℕ) → isReference (b .«ref_width») (b .«ref_height») n ≡ true → isLines (b .«above_lines») (b .«left_lines») ≡ true
-    → isPlaced b ≡ true → hasNeighbours b ≡ true → Placed b n
-unfolding isPlaced hasNeighbours
+    → isPlaced b ≡ true → hasLines b ≡ true → InReference b n
+unfolding isPlaced hasLines
 placed b n reference lines place there =
     let r = reference-all _ _ _ reference in
     let l = lines-all _ _ lines in

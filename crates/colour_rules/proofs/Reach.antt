@@ -10,7 +10,7 @@ use Rattle.numbers.specs.declared.colour.ColourDirection.the-variants.{Centre, 
 use Rattle.colour_terms.specs.Terms.{stride}
 use Rattle.colour_rules.specs.Needed.{Place, before, centreAt, directionAt}
 use Rattle.colour_rules.specs.Area.{upOf, besideOf}
-use Rattle.colour_rules.specs.Placed.{Placed}
+use Rattle.colour_rules.specs.Placed.{InReference}
 use Rattle.colour_rules.specs.declared.block.Block.{Block}
 use Rattle.colour_rules.proofs.Before.{stays, inner}
 use Rattle.colour_rules.proofs.Bounds.{reach, no-reach, reach-most}
@@ -50,7 +50,7 @@ module _ (b : Block) where
   abbrev placeBy : ColourDirection → Bool → Bool → ℕ → ℕ → Place
   placeBy c t l i j = record { x = before l left (columnsLeft c) i; y = before t top (rowsUp c) j }
 
-module _ (b : Block) (n : ℕ) (g : Placed b n) where
+module _ (b : Block) (n : ℕ) (g : InReference b n) where
   centred : (d : ℕ → ℕ → Place) (u e y x : ℕ) → u ≡ 0 → e ≡ 0 → y < b .height + u → x < b .width + e → Wanted b d (cell b u e y x)
   centred d u e y x z w p q = record { i = x; j = y; wide = omega arith; high = omega arith; is = inl (omega arith) }
 

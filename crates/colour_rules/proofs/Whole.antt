@@ -14,13 +14,13 @@ use Rattle.colour_terms.specs.Terms.{entry}
 use Rattle.colour_rules.specs.Needed.{directionAt, needed}
 use Rattle.colour_rules.specs.Rules.{allInRange, isLumaInRange}
 use Rattle.colour_rules.specs.Area.{upOf, besideOf}
-use Rattle.colour_rules.specs.Placed.{Placed}
+use Rattle.colour_rules.specs.Placed.{InReference}
 use Rattle.colour_rules.specs.declared.block.Block.{Block}
 use Rattle.colour_rules.proofs.Shown.{shown}
 use Rattle.colour_rules.proofs.Bounds.{up-most, beside-most}
 use Rattle.colour_rules.proofs.Reach.{cell, Wanted, Within, wanted-at, within-at, centre-within}
 
-module _ (b : Block) (n : ℕ) (g : Placed b n) (luma : List ℤ) where
+module _ (b : Block) (n : ℕ) (g : InReference b n) (luma : List ℤ) where
   abbrev test : ℕ → Bool
   test p = inside (pos (8 * most (b .d) + 7)) (getD luma p (pos 0))
 

@@ -7,7 +7,7 @@ use Rattle.colour_terms.specs.Terms.{stride}
 use Rattle.colour_rules.specs.Rules.{largestSide}
 use Rattle.colour_rules.specs.declared.block.Block.{Block}
 
-pub record Placed (b : Block) (n : ℕ) : Type 0 where
+pub record InReference (b : Block) (n : ℕ) : Type 0 where
   pub above : b .«above_lines» ≤ mostLines
   pub left : b .«left_lines» ≤ mostLines
   pub wide : (1 ≤ b .width) × (b .width ≤ largestSide)

@@ -34,8 +34,8 @@ unfoldable pub hasLine : Bool → ℕ → Bool
 hasLine there lines = not there || leb 1 lines
 
 -- "have_top with above_lines 0, have_left with left_lines 0"
-unfoldable pub hasNeighbours : Block → Bool
-hasNeighbours b = hasLine (b .«have_top») (b .«above_lines») && hasLine (b .«have_left») (b .«left_lines»)
+unfoldable pub hasLines : Block → Bool
+hasLines b = hasLine (b .«have_top») (b .«above_lines») && hasLine (b .«have_left») (b .«left_lines»)
 
 -- the value of each place is in 0..8M+7
 abbrev pub allInRange : ℕ → (ℕ → ℕ → ℤ) → List Place → Bool
@@ -54,7 +54,7 @@ predictRules luma b n =
     isReference (b .«ref_width») (b .«ref_height») (length luma) else BadReference ∷
     isLines (b .«above_lines») (b .«left_lines») else BadLines ∷
     isPlaced b else BadLines ∷
-    hasNeighbours b else BadLines ∷
+    hasLines b else BadLines ∷
     leb (b .width * b .height) n else ShortList ∷
     isLumaInRange (entry luma) b else BadColourSample ∷ []
 

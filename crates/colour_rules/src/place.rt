@@ -4,7 +4,7 @@ use colour_terms::reference::Reference;
 ghost use mathlib.Core.Path.{_≡_};
 ghost use mathlib.Core.Bool.{true};
 ghost use Rattle.colour_terms.specs.Reference.{isLines};
-ghost use Rattle.colour_rules.specs.Rules.{isSide, isPlaced, hasLine, hasNeighbours};
+ghost use Rattle.colour_rules.specs.Rules.{isSide, isPlaced, hasLine, hasLines};
 
 // A side of the block.
 fn is_side(n: usize) -> bool
@@ -45,7 +45,7 @@ fn has_line(there: bool, lines: usize) -> bool
 
 // 12: the neighbours.
 pub fn has_neighbours(b: Block) -> bool
-    ensures { λ r. ⌜ r ≡ hasNeighbours b ⌝ }
+    ensures { λ r. ⌜ r ≡ hasLines b ⌝ }
 {
     if !has_line(b.have_top, b.above_lines) {
         return false;

@@ -14,7 +14,7 @@ ghost use Rattle.signed.specs.Range.{inside};
 ghost use Rattle.edge_line.specs.Every.{every};
 ghost use Rattle.colour_terms.specs.Terms.{stride, entry};
 ghost use Rattle.colour_rules.specs.Area.{upOf, besideOf, Area};
-ghost use Rattle.colour_rules.specs.Placed.{Placed};
+ghost use Rattle.colour_rules.specs.Placed.{InReference};
 ghost use Rattle.colour_rules.specs.Rules.{isLumaInRange};
 
 // Whether the first n entries are in 0..m.
@@ -71,7 +71,7 @@ fn beside_of(b: Block) -> usize
 
 // 13: the needed values.
 pub fn luma_in_range(luma: &[i32], b: Block, m: i32) -> bool
-    requires { ⌜ (isDepth (b .d) ≡ true) × (m ≡ pos (most (b .d))) × Placed b (length (now luma)) × (isColour (b .direction) ≡ true) ⌝ }
+    requires { ⌜ (isDepth (b .d) ≡ true) × (m ≡ pos (most (b .d))) × InReference b (length (now luma)) × (isColour (b .direction) ≡ true) ⌝ }
     ensures { λ r. ⌜ r ≡ isLumaInRange (entry (now (luma .entry))) b ⌝ }
 {
     let up = up_of(b);

@@ -10,7 +10,7 @@ use Rattle.signed.specs.Range.{inside, Edge}
 use Rattle.lists.specs.Fill.{filled}
 use Rattle.lists.proofs.Fill.{filled-at, length-filled}
 use Rattle.edge_filter.specs.Filter.{edge, padded}
-use Rattle.edge_filter.specs.Padded.{place, Ends}
+use Rattle.edge_filter.specs.Padded.{entryAt, Ends}
 
 module _ (n : ℕ) (k : ℤ) (es : List ℤ) where
   -- the corner, the entries, the last of them
@@ -45,7 +45,7 @@ module _ (n : ℕ) (k : ℤ) (es : List ℤ) where
     at : (j : ℕ) → j < n + 7 → getD xs j (pos 0) ≡ padded 4 n (edge k es) j
     at j h = ap (λ (l : List ℤ). getD l j (pos 0)) e ∙ filled-at size (padded 4 n (edge k es)) zs j (pos 0) (omega arith)
 
-    pub pad-place : (i : ℕ) → i ≤ n → place xs i ≡ edge k es i
+    pub pad-place : (i : ℕ) → i ≤ n → entryAt xs i ≡ edge k es i
     pad-place i h = at (i + 4) (omega arith) ∙ ap (edge k es) z
       where
         z : min n (i + 4 - 4) ≡ i

@@ -13,7 +13,7 @@ use Rattle.lists.proofs.Fill.{rest-at, rest-each, rest-length, filled-part, len
 use borrow.Rule.Slice.PartMut.{putMid}
 use Rattle.kernels.specs.Kernel.{five, taps5}
 use Rattle.edge_filter.specs.Filter.{padded}
-use Rattle.edge_filter.specs.Padded.{place, Ends}
+use Rattle.edge_filter.specs.Padded.{entryAt, Ends}
 
 -- a part of a list that is as long as before comes back
 pub filled-next : (o e : ℕ) (f g : ℕ → ℤ) (xs ys row : List ℤ) → o ≤ e → e ≤ length xs → ys ≡ filled o f xs
@@ -52,14 +52,14 @@ module _ (n : ℕ) (xs : List ℤ) (h : Ends n xs) where
       (omega (arith, rest-length s xs), edge-from s (length (take k ys) + 4) (omega arith))
 
   -- an entry that is lent from s on, by its place
-  pub rest-place : (s i j : ℕ) → s + i < n + 7 → j ≡ min n (s + i - 4) → getD (rest s xs) i (pos 0) ≡ place xs j
+  pub rest-place : (s i j : ℕ) → s + i < n + 7 → j ≡ min n (s + i - 4) → getD (rest s xs) i (pos 0) ≡ entryAt xs j
   rest-place s i j r e =
       let l = h .long in
-      rest-at s xs i (pos 0) (omega arith) ∙ h .repeats (s + i) r ∙ ap (place xs) (sym e)
+      rest-at s xs i (pos 0) (omega arith) ∙ h .repeats (s + i) r ∙ ap (entryAt xs) (sym e)
 
   -- the five entries from i on, lent from 3 on, are those about place i + 1
   pub rest-five : (k0 k1 k2 k3 k4 : ℤ) (i b : ℕ) → i < n → b ≡ i + 1
-      → five k0 k1 k2 k3 k4 (λ k. getD (rest 3 xs) k (pos 0)) i ≡ five k0 k1 k2 k3 k4 (padded 2 n (place xs)) b
+      → five k0 k1 k2 k3 k4 (λ k. getD (rest 3 xs) k (pos 0)) i ≡ five k0 k1 k2 k3 k4 (padded 2 n (entryAt xs)) b
   rest-five k0 k1 k2 k3 k4 i b l e = λ j.
       taps5 k0 k1 k2 k3 k4
       (p i b (omega arith) (omega arith) j)
@@ -68,5 +68,5 @@ module _ (n : ℕ) (xs : List ℤ) (h : Ends n xs) where
       (p (i + 3) (b + 3) (omega arith) (omega arith) j)
       (p (i + 4) (b + 4) (omega arith) (omega arith) j)
     where
-      p : (t u : ℕ) → t < n + 4 → u ≡ t + 1 → getD (rest 3 xs) t (pos 0) ≡ padded 2 n (place xs) u
+      p : (t u : ℕ) → t < n + 4 → u ≡ t + 1 → getD (rest 3 xs) t (pos 0) ≡ padded 2 n (entryAt xs) u
       p t u m d = rest-place 3 t (min n (u - 2)) (omega arith) (omega arith)

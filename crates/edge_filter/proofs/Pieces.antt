@@ -11,7 +11,7 @@ use Rattle.lists.specs.Fill.{tab, filled}
 use Rattle.lists.proofs.Fill.{filled-none, filled-at, filled-all}
 use Rattle.kernels.specs.Kernel.{kernel, five}
 use Rattle.edge_filter.specs.Filter.{edge, padded, filtered}
-use Rattle.edge_filter.specs.Padded.{place, Ends}
+use Rattle.edge_filter.specs.Padded.{entryAt, Ends}
 use Rattle.edge_filter.proofs.Padded.{pad-corner, pad-in, pad-last}
 use Rattle.edge_filter.proofs.Filtered.{filtered-in, filtered-past, filtered-corner}
 use Rattle.edge_filter.proofs.Parts.{filled-next, rest, rest-five, rest-place}
@@ -46,7 +46,7 @@ module _ (n size : ℕ) (k : ℤ) (es p : List ℤ) (l : 0 < n) (m : n + 7 ≤ s
 
 module _ (s lim n : ℕ) (xs p : List ℤ) where
   abbrev g : ℕ → ℤ
-  g = filtered s lim n (place xs)
+  g = filtered s lim n (entryAt xs)
 
   -- the filtered places, and the others
   pub filter-places : (top : ℕ) (r0 r1 : List ℤ) → Ends n xs → 0 < s → 0 < lim → length p ≡ n → top ≡ min (lim - 1) n
@@ -55,17 +55,17 @@ module _ (s lim n : ℕ) (xs p : List ℤ) where
       → put top n (put 0 top p r0) r1 ≡ tab (length p) (λ i. g (i + 1))
   filter-places top r0 r1 ends l m len t u v =
       filled-next top n (λ i. g (i + 1)) _ p (put 0 top p r0) r1 (omega arith) (omega arith) one v
-      (λ i h. rest-place n xs ends (top + 5) i (top + i + 1) (omega arith) (omega arith) ∙ sym (filtered-past s lim n (place xs) (top + i + 1) (omega arith)))
+      (λ i h. rest-place n xs ends (top + 5) i (top + i + 1) (omega arith) (omega arith) ∙ sym (filtered-past s lim n (entryAt xs) (top + i + 1) (omega arith)))
       ∙ filled-all n (λ i. g (i + 1)) p (sym len)
     where
       one : put 0 top p r0 ≡ filled top (λ i. g (i + 1)) p
       one =
           filled-next 0 top (λ i. g (i + 1)) _ p p r0 (omega arith) (omega arith) (sym (filled-none _ p)) u
           (λ i h. rest-five n xs ends (kernel s 0) (kernel s 1) (kernel s 2) (kernel s 3) (kernel s 4) i (0 + i + 1) (omega arith) (omega arith)
-          ∙ sym (filtered-in s lim n (place xs) (0 + i + 1) l (omega arith) (omega arith)))
+          ∙ sym (filtered-in s lim n (entryAt xs) (0 + i + 1) l (omega arith) (omega arith)))
 
   -- the corner, the places, the last of them, which is read back by `read`
-  pub filter-list : (size : ℕ) (x : ℤ) (read : ℤ → ℤ) (r0 r1 r2 : List ℤ) → n + 7 ≤ size → size ≤ length p → x ≡ place xs 0
+  pub filter-list : (size : ℕ) (x : ℤ) (read : ℤ → ℤ) (r0 r1 r2 : List ℤ) → n + 7 ≤ size → size ≤ length p → x ≡ entryAt xs 0
       → ((j : ℕ) → read (padded 4 n g j) ≡ padded 4 n g j)
       → r0 ≡ tab (length (part 0 5 p)) (λ i. x)
       → r1 ≡ tab (length (part 5 (n + 5) (put 0 5 p r0))) (λ i. g (i + 1))
@@ -77,7 +77,7 @@ module _ (s lim n : ℕ) (xs p : List ℤ) where
       one : put 0 5 p r0 ≡ filled 5 (padded 4 n g) p
       one =
           filled-next 0 5 (padded 4 n g) _ p p r0 (omega arith) (omega arith) (sym (filled-none _ p)) u
-          (λ i h. a ∙ sym (filtered-corner s lim n (place xs) (min n (0 + i - 4)) (omega arith)))
+          (λ i h. a ∙ sym (filtered-corner s lim n (entryAt xs) (min n (0 + i - 4)) (omega arith)))
 
       two : put 5 (n + 5) (put 0 5 p r0) r1 ≡ filled (n + 5) (padded 4 n g) p
       two = filled-next 5 (n + 5) (padded 4 n g) _ p (put 0 5 p r0) r1 (omega arith) (omega arith) one v (λ i h. ap g (omega arith))

@@ -7,10 +7,10 @@ use lib.IntN.{ℤ, pos}
 use Rattle.signed.specs.Range.{Edge}
 use Rattle.edge_filter.specs.Filter.{padded}
 
-abbrev pub place : List ℤ → ℕ → ℤ
-place xs i = getD xs (i + 4) (pos 0)
+abbrev pub entryAt : List ℤ → ℕ → ℤ
+entryAt xs i = getD xs (i + 4) (pos 0)
 
 pub record Ends (n : ℕ) (xs : List ℤ) : Type 0 where
   pub long : n + 7 ≤ length xs
   pub samples : Edge 4095 (n + 7) xs
-  pub repeats : (k : ℕ) → k < n + 7 → getD xs k (pos 0) ≡ padded 4 n (place xs) k
+  pub repeats : (k : ℕ) → k < n + 7 → getD xs k (pos 0) ≡ padded 4 n (entryAt xs) k

@@ -9,7 +9,7 @@ ghost use lib.IntN.{pos};
 ghost use Rattle.signed.specs.Range.{inside, Edge};
 ghost use Rattle.lists.specs.Fill.{tab, filled};
 ghost use Rattle.edge_filter.specs.Filter.{edge as edgeOf, padded, filtered};
-ghost use Rattle.edge_filter.specs.Padded.{place, Ends};
+ghost use Rattle.edge_filter.specs.Padded.{entryAt, Ends};
 
 // The corner, the edge's entries and the last of them on to `size`.
 fn pad_edge(corner: i32, edge: &[i32], n: usize, size: usize, list: &mut [i32])
@@ -28,7 +28,7 @@ fn pad_edge(corner: i32, edge: &[i32], n: usize, size: usize, list: &mut [i32])
 // The places 1 .. n of `pad`, filtered by the strength s below the limit.
 fn filter_part(s: usize, lim: usize, n: usize, pad: &[i32], to: &mut [i32])
     requires { ⌜ (0 < s) × (s ≤ 3) × (0 < lim) × (n ≤ 128) × (length (now to) ≡ n) × Ends n (now pad) ⌝ }
-    ensures { λ _. ⌜ now (to .exit) ≡ tab (length (now (to .entry))) (λ i. filtered s lim n (place (now (pad .entry))) (i + 1)) ⌝ }
+    ensures { λ _. ⌜ now (to .exit) ≡ tab (length (now (to .entry))) (λ i. filtered s lim n (entryAt (now (pad .entry))) (i + 1)) ⌝ }
 {
     let top = minmax::min(lim - 1, n);
     let start = 0;
@@ -41,7 +41,7 @@ fn filter_part(s: usize, lim: usize, n: usize, pad: &[i32], to: &mut [i32])
 // The list of `pad`, filtered, its ends repeated.
 fn filter_edge(s: usize, lim: usize, n: usize, size: usize, pad: &[i32], list: &mut [i32])
     requires { ⌜ (0 < s) × (s ≤ 3) × (0 < lim) × (n ≤ 128) × (n + 7 ≤ size) × (size ≤ length (now list)) × Ends n (now pad) ⌝ }
-    ensures { λ _. ⌜ now (list .exit) ≡ filled size (padded 4 n (filtered s lim n (place (now (pad .entry))))) (now (list .entry)) ⌝ }
+    ensures { λ _. ⌜ now (list .exit) ≡ filled size (padded 4 n (filtered s lim n (entryAt (now (pad .entry))))) (now (list .entry)) ⌝ }
 {
     let start = 0;
     let first = 5;

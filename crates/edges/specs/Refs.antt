@@ -22,8 +22,8 @@ pub record Lists : Type 0 where
   pub corner : List ℤ
 
 -- the answer of a call with these outputs
-abbrev pub answerFor : List Float → ℕ → ℕ → IntraRefSpec → Lists → Answer
-answerFor plane W H s before = refsAnswer plane W H s (length (before .above)) (length (before .left)) (length (before .corner))
+abbrev pub refsAnswerFor : List Float → ℕ → ℕ → IntraRefSpec → Lists → Answer
+refsAnswerFor plane W H s before = refsAnswer plane W H s (length (before .above)) (length (before .left)) (length (before .corner))
 
 -- what they hold if it is done
 abbrev pub refsOf : List Float → ℕ → IntraRefSpec → Lists → Lists
@@ -35,4 +35,4 @@ refsOf plane W s before = record {
 
 -- what a call promises of its answer r and of its outputs, before and after
 abbrev pub Built : List Float → ℕ → ℕ → IntraRefSpec → Lists → Lists → Answer → Type 0
-Built plane W H s before after r = Promise (answerFor plane W H s before) (lent (answerFor plane W H s before) (refsOf plane W s before) before) r after
+Built plane W H s before after r = Promise (refsAnswerFor plane W H s before) (lent (refsAnswerFor plane W H s before) (refsOf plane W s before) before) r after

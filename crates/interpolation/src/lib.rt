@@ -1,4 +1,4 @@
-// Interpolation between the entries of an edge (document 01, Directions).
+// Rows of samples between the entries of an edge (document 01, Directions).
 pub mod between;
 mod chroma;
 mod luma;

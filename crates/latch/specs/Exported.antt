@@ -9,13 +9,13 @@ use lib.ListN.{length}
 use Rattle.numbers.specs.Answer.{answerNumber}
 use Rattle.lists.specs.Block.{block}
 use Rattle.refusals.specs.Promise.{lent, Promise}
-use Rattle.edges.specs.Refs.{Lists, answerFor, refsOf}
+use Rattle.edges.specs.Refs.{Lists, refsAnswerFor, refsOf}
 use Rattle.block_spec.specs.declared.spec.IntraRefSpec.{IntraRefSpec}
 use Rattle.direct_calls.specs.Direct.{Predictor, directAnswer}
 use Rattle.colour_sums.specs.declared.window.Window.{Window}
 use Rattle.colour_params.specs.Rules.{deriveAnswer}
 use Rattle.colour_params.specs.Derived.{listParams, written}
-use Rattle.colour_block.specs.Predicted.{predictedBlock}
+use Rattle.colour_block.specs.Predicted.{chromaBlock}
 use Rattle.colour_rules.specs.Rules.{predictAnswer}
 use Rattle.colour_rules.specs.declared.block.Block.{Block}
 
@@ -51,7 +51,7 @@ lists above left corner = record { above = above; left = left; corner = corner }
 
 abbrev pub BuiltC : List Float → ℕ → ℕ → IntraRefSpec → Lists → Lists → ℕ → Type 0
 BuiltC plane W H s before after r =
-    Promise (answerNumber (answerFor plane W H s before)) (lent (answerFor plane W H s before) (refsOf plane W s before) before) r after
+    Promise (answerNumber (refsAnswerFor plane W H s before)) (lent (refsAnswerFor plane W H s before) (refsOf plane W s before) before) r after
 
 -- a window, by its four sizes
 abbrev pub window : ℕ → ℕ → ℕ → ℕ → Window
@@ -73,5 +73,5 @@ DerivedC luma chroma w direction D before after r =
 abbrev pub PredictedBlockC : List ℤ → Block → ℤ → ℤ → ℤ → List ℤ → List ℤ → ℕ → Type 0
 PredictedBlockC luma b p0 p1 p2 before after r =
     Promise (answerNumber (predictAnswer luma b (length before)))
-    (lent (predictAnswer luma b (length before)) (predictedBlock luma b p0 p1 p2 before) before)
+    (lent (predictAnswer luma b (length before)) (chromaBlock luma b p0 p1 p2 before) before)
     r after

@@ -1,6 +1,6 @@
 // The colour calls (document 01, Colour parameters).
 use colour_sums::window::Window;
-ghost use Rattle.colour_block.specs.Predicted.{blockOf};
+ghost use Rattle.colour_block.specs.Predicted.{blockFrom};
 ghost use Rattle.latch.specs.Exported.{window, DerivedC, PredictedBlockC};
 
 // `colour_params::derive_into`, by its answer's number.
@@ -46,7 +46,7 @@ pub extern "C" fn latch_predict_block(
     p2: i32,
     out: &mut [i32],
 ) -> u32
-    ensures { λ r. ⌜ PredictedBlockC (now (luma .entry)) (blockOf (window «ref_width» «ref_height» «above_lines» «left_lines») width height «have_top» «have_left» direction d) p0 p1 p2 (now (out .entry)) (now (out .exit)) r ⌝ }
+    ensures { λ r. ⌜ PredictedBlockC (now (luma .entry)) (blockFrom (window «ref_width» «ref_height» «above_lines» «left_lines») width height «have_top» «have_left» direction d) p0 p1 p2 (now (out .entry)) (now (out .exit)) r ⌝ }
 {
     let w = Window {
         ref_width,

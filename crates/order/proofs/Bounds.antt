@@ -10,15 +10,15 @@ use Rattle.job.specs.Row.{Row, specOf}
 use Rattle.job.specs.Rules.{stands}
 use Rattle.job.proofs.Stands.{standing}
 use Rattle.clash.specs.Hull.{onlyIf}
-use Rattle.clash.specs.Rects.{Placed}
+use Rattle.clash.specs.Rects.{HullFits}
 use Rattle.order.specs.Sides.{sidesOf}
 use Rattle.order.specs.Window.{Searched}
 use Rattle.order.specs.declared.sides.Sides.{Sides}
 use Rattle.clash.proofs.Placed.{placed-of}
 
 module _ (W H n : ℕ) (part : Row) (on : Bool) (s : IntraRefSpec) (p : on ≡ stands W H n part) (q : s ≡ specOf part) where
-  pub placed-if : W ≤ 4096 → H ≤ 4096 → on ≡ true → Placed s
-  placed-if w h e = subst Placed (sym q) (placed-of W H (specOf part) (standing W H n part (sym p ∙ e)) w h)
+  pub placed-if : W ≤ 4096 → H ≤ 4096 → on ≡ true → HullFits s
+  placed-if w h e = subst HullFits (sym q) (placed-of W H (specOf part) (standing W H n part (sym p ∙ e)) w h)
 
   -- f is the block or the hull
   pub sides-is : (row : Row) → part ≡ row → (f : IntraRefSpec → Rect) (b : Sides) → b ≡ sidesOf (onlyIf on (f s))

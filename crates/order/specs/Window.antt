@@ -17,7 +17,7 @@ abbrev pub Touch : List ℤ → List ℤ → Sides → Sides → ℕ → Type 0
 Touch blocks hulls b h j = (met hulls j b ≡ true) ⊎ (met blocks j h ≡ true)
 
 -- the rows from i up to `top` are rows of the plan, and of the lists
-pub record Rows (plan : List ℕ) (i top : ℕ) (blocks hulls : List ℤ) : Type 0 where
+pub record WindowRows (plan : List ℕ) (i top : ℕ) (blocks hulls : List ℤ) : Type 0 where
   pub row : 16 * i + 16 ≤ length plan
   pub rows : 16 * top ≤ length plan
   pub few : length plan ≤ 16384

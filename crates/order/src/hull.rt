@@ -9,7 +9,7 @@ ghost use mathlib.Core.Path.{_≡_};
 ghost use mathlib.Core.Bool.{true};
 ghost use Rattle.touches.specs.Touches.{blockAt};
 ghost use Rattle.clash.specs.Hull.{one, past, hullOf, onlyIf};
-ghost use Rattle.clash.specs.Rects.{rectOf, Near, Placed};
+ghost use Rattle.clash.specs.Rects.{rectOf, Near, HullFits};
 ghost use Rattle.order.specs.Sides.{sidesOf};
 
 // One row or column more if the neighbour is there.
@@ -56,7 +56,7 @@ fn none() -> Sides
 
 // The bounds of the block.
 pub fn block_sides(on: bool, s: IntraRefSpec) -> Sides
-    requires { ⌜ (on ≡ true → Placed s) ⌝ }
+    requires { ⌜ (on ≡ true → HullFits s) ⌝ }
     ensures { λ r. ⌜ r ≡ sidesOf (onlyIf on (blockAt s)) ⌝ }
 {
     if !on {
@@ -67,7 +67,7 @@ pub fn block_sides(on: bool, s: IntraRefSpec) -> Sides
 
 // The bounds of the hull.
 pub fn hull_sides(on: bool, s: IntraRefSpec) -> Sides
-    requires { ⌜ (on ≡ true → Placed s) ⌝ }
+    requires { ⌜ (on ≡ true → HullFits s) ⌝ }
     ensures { λ r. ⌜ r ≡ sidesOf (onlyIf on (hullOf s)) ⌝ }
 {
     if !on {

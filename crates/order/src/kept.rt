@@ -8,7 +8,7 @@ use job::row;
 ghost use mathlib.Core.Path.{_≡_};
 ghost use Prim.Native.Nat.{_+_, _*_, _≤_};
 ghost use Rattle.order.specs.Rules.{isKept};
-ghost use Rattle.order.specs.Window.{Rows, Passed, Walk, Blank};
+ghost use Rattle.order.specs.Window.{WindowRows, Passed, Walk, Blank};
 
 // Row i: whether it clashes with a row after it that has run; if not, it is noted.
 fn pass(
@@ -21,7 +21,7 @@ fn pass(
     blocks: &mut [i16],
     hulls: &mut [i16],
 ) -> bool
-    requires { ⌜ (width ≤ 4096) × (height ≤ 4096) × Rows (now plan) i top (now blocks) (now hulls) ⌝ }
+    requires { ⌜ (width ≤ 4096) × (height ≤ 4096) × WindowRows (now plan) i top (now blocks) (now hulls) ⌝ }
     ensures { λ r. ⌜ Passed width height n (now (plan .entry)) i top (now (blocks .entry)) (now (hulls .entry)) (now (blocks .exit)) (now (hulls .exit)) r ⌝ }
 {
     let o = 16 * i;

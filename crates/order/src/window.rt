@@ -5,7 +5,7 @@ use crate::sides::Sides;
 use clash::pair;
 ghost use Prim.Native.Nat.{_+_, _*_, _≤_};
 ghost use lib.ListN.{length};
-ghost use Rattle.order.specs.Window.{Rows, Turned, Searched};
+ghost use Rattle.order.specs.Window.{WindowRows, Turned, Searched};
 
 // Whether row j touches row i, and clashes with it. The bounds of row i are b and h.
 fn turned(
@@ -20,7 +20,7 @@ fn turned(
     b: Sides,
     h: Sides,
 ) -> bool
-    requires { ⌜ Rows (now plan) i j (now blocks) (now hulls) × (16 * j + 16 ≤ length (now plan)) ⌝ }
+    requires { ⌜ WindowRows (now plan) i j (now blocks) (now hulls) × (16 * j + 16 ≤ length (now plan)) ⌝ }
     ensures { λ r. ⌜ Turned width height n (now (plan .entry)) i j (now (blocks .entry)) (now (hulls .entry)) b h r ⌝ }
 {
     let near = sides::meets_at(hulls, j, b);
@@ -44,7 +44,7 @@ fn one_by_one(
     b: Sides,
     h: Sides,
 ) -> bool
-    requires { ⌜ Rows (now plan) i top (now blocks) (now hulls) ⌝ }
+    requires { ⌜ WindowRows (now plan) i top (now blocks) (now hulls) ⌝ }
     ensures { λ r. ⌜ Searched width height n (now (plan .entry)) i top (now (blocks .entry)) (now (hulls .entry)) b h r ⌝ }
 {
     let mut j = i + 1;
@@ -70,7 +70,7 @@ pub fn search(
     b: Sides,
     h: Sides,
 ) -> bool
-    requires { ⌜ Rows (now plan) i top (now blocks) (now hulls) ⌝ }
+    requires { ⌜ WindowRows (now plan) i top (now blocks) (now hulls) ⌝ }
     ensures { λ r. ⌜ Searched width height n (now (plan .entry)) i top (now (blocks .entry)) (now (hulls .entry)) b h r ⌝ }
 {
     let from = i + 1;

@@ -18,8 +18,8 @@ use Rattle.zone_spec.specs.Zones.{sampleAlong, zone2}
 use Rattle.directional.specs.Directional.{isDown, isAcross}
 use Rattle.fixed_product.specs.Product.{ilog2, digits, over, narrow, rounded, mulFixed}
 use Rattle.reciprocal.specs.Division.{curve, moved, fraction, scaleOf}
-use Rattle.paper.specs.Paper.{given, paper}
+use Rattle.paper.specs.Paper.{workedOut, paper}
 
-pub as-on-paper : given ≡ paper
-unfolding given paper paeth blend log2 scale weight trailingZeros tab reading ofBits add toUnsigned aboveBehind leftBehind cornerBehind along isDown isAcross sampleAlong zone2 filtered strengthAbove strengthLeft strength edge filteredCorner between clip taps2 mulFixed rounded narrow over digits ilog2 leadingZeros scaleOf curve fraction moved
+pub as-on-paper : workedOut ≡ paper
+unfolding workedOut paper paeth blend log2 scale weight trailingZeros tab reading ofBits add toUnsigned aboveBehind leftBehind cornerBehind along isDown isAcross sampleAlong zone2 filtered strengthAbove strengthLeft strength edge filteredCorner between clip taps2 mulFixed rounded narrow over digits ilog2 leadingZeros scaleOf curve fraction moved
 as-on-paper = refl

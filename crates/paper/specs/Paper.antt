@@ -51,8 +51,8 @@ chroma4 angle = directionalAt 4 4 (pos 255) record {
 abbrev from : ℕ → List ℤ
 from n = tab 8 (λ i. pos (n + i))
 
-unfoldable pub given : List (List ℤ)
-given =
+unfoldable pub workedOut : List (List ℤ)
+workedOut =
     -- 1 to 3: Paeth of l, t, k
     (paeth (pos 10) (pos 25) (pos 20) ∷ []) ∷
     (paeth (pos 25) (pos 10) (pos 20) ∷ []) ∷

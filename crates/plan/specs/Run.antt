@@ -1,5 +1,5 @@
 -- What a run promises. "In a run only 20 to 23 refuse the whole. Job refusals go into the answer list (0 is done; entry i is plan row i) and the run
--- continues." (document 01). What is promised is the plan's own order; proofs/Reorder shows that the accepted orders end the same.
+-- continues." (document 01, Refusal numbers). What is promised is the plan's own order; proofs/Reorder shows that the accepted orders end the same.
 use mathlib.Core.Path.{_≡_}
 use mathlib.Core.Bool.{true}
 use mathlib.Core.List.{List}

@@ -1,4 +1,4 @@
-// A plan of block jobs over one picture, run in an order (document 01). `run` takes any input and tests 20 to 23; the plane and the answers that it
+// A plan of block jobs over one picture, run in an order (document 01, Refusal numbers). `run` takes any input and tests 20 to 23; the plane and the answers that it
 // leaves are those of the plan's own order, whichever accepted order it was given.
 mod rows;
 

@@ -15,7 +15,7 @@ use Rattle.signed.proofs.Bound.{Bound, b-abs, b-pos, b-add, b-mul, abs-shr, sfi
 use Rattle.signed.proofs.Naturals.{pow-le}
 use Rattle.signed.proofs.Range.{pos-inside}
 use Rattle.fixed_product.specs.Product.{ilog2, digits, over}
-use Rattle.product_table.specs.Wide.{overBy, cleared, mask, keptProduct, halfOf, Wide}
+use Rattle.product_table.specs.Wide.{overBy, cleared, mask, keptProduct, halfOf, WideTable}
 use Rattle.fixed_product.proofs.Shift.{odd, ilog2-is, ilog2-odd}
 use Rattle.fixed_product.proofs.Bounds.{digits-of}
 use Rattle.fixed_product.proofs.Short.{digits-twelve, over-few}
@@ -72,7 +72,7 @@ module _ (a : ℤ) (n : ℕ) (f : SFits w32 a) (h : n ≤ 4095) where
   unfolding over digits
   over-is = omega (arith, zeros, few-digits)
 
-  module _ (table : List ℤ) (w : Wide a table) where
+  module _ (table : List ℤ) (w : WideTable a table) where
     pub first-is : getD table place (pos 0) ≡ cleared a s1
     first-is = w .first place place-few ∙ ap (λ (o : ℕ). cleared a (o / 2)) over-is
 

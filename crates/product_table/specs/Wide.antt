@@ -32,8 +32,8 @@ pub record WideTo (k : ℕ) (a : ℤ) (table : List ℤ) : Type 0 where
   pub second : (z : ℕ) → z < k → getD table (12 + z) (pos 0) ≡ pos (mask (overBy a (12 - z) - overBy a (12 - z) / 2))
 
 -- the table of a: for second factors of 12 digits to 1
-abbrev pub Wide : ℤ → List ℤ → Type 0
-Wide = WideTo 12
+abbrev pub WideTable : ℤ → List ℤ → Type 0
+WideTable = WideTo 12
 
 -- what is added to a product by a, so that a shift by 16 rounds it to the nearest, halves away from 0
 abbrev pub halfOf : ℤ → ℤ

@@ -8,7 +8,7 @@ ghost use lib.IntN.{pos};
 ghost use lib.ListN.{length};
 ghost use Rattle.signed.specs.Range.{inside};
 ghost use Rattle.fixed_product.specs.Product.{mulFixed};
-ghost use Rattle.product_table.specs.Wide.{cleared, mask, keptProduct, halfOf, Wide};
+ghost use Rattle.product_table.specs.Wide.{cleared, mask, keptProduct, halfOf, WideTable};
 
 // What rounds a product by a to the nearest, before a shift by 16.
 pub fn half(a: i32) -> i32
@@ -38,7 +38,7 @@ fn mask(s: u32) -> i64
 // The table of a: entry z is for second factors that z of twelve digits stand before, and entry 12 + z has the digits that those keep.
 pub fn fill(a: i32, table: &mut [i64])
     requires { ⌜ length (now table) ≡ 24 ⌝ }
-    ensures { λ _. ⌜ Wide a (now (table .exit)) ⌝ }
+    ensures { λ _. ⌜ WideTable a (now (table .exit)) ⌝ }
 {
     let n = product::digits(a);
     let mut z = 0;
@@ -53,7 +53,7 @@ pub fn fill(a: i32, table: &mut [i64])
 
 // The product of what a, whose table it is, and b keep.
 fn kept_product(a: i32, table: &[i64], b: i32) -> i64
-    requires { ⌜ Wide a (now table) × (inside (pos 4095) b ≡ true) ⌝ }
+    requires { ⌜ WideTable a (now table) × (inside (pos 4095) b ≡ true) ⌝ }
     ensures { λ r. ⌜ r ≡ keptProduct a b ⌝ }
 {
     let n = b as u32;
@@ -64,7 +64,7 @@ fn kept_product(a: i32, table: &[i64], b: i32) -> i64
 
 // The product of a by b.
 pub fn mul_wide(a: i32, table: &[i64], b: i32) -> i32
-    requires { ⌜ Wide a (now table) × (inside (pos 4095) b ≡ true) ⌝ }
+    requires { ⌜ WideTable a (now table) × (inside (pos 4095) b ≡ true) ⌝ }
     ensures { λ r. ⌜ r ≡ mulFixed a b 16 ⌝ }
 {
     ((kept_product(a, table, b) + half(a) as i64) >> 16) as i32

@@ -1,4 +1,4 @@
--- Orders of three jobs on a plane of 16 by 4: "job order written backwards on two touching blocks, the right one reading the left: 23" (document 01),
+-- Orders of three jobs on a plane of 16 by 4: "job order written backwards on two touching blocks, the right one reading the left: 23" (document 01, Numbers on paper),
 -- and orders other than the plan's that are accepted. Assumes nothing.
 use mathlib.Core.Path.{_≡_, refl}
 use mathlib.Core.List.{List, [], _∷_, _++_}

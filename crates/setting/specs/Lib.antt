@@ -1,3 +1,3 @@
--- What a direction is set to, from document 01: a reader must believe all of it.
+-- What a direction is set to (document 01, Directions): a reader must believe all of it.
 pub mod Setting
 pub mod Steps

@@ -1,4 +1,4 @@
--- Rule 8: which samples are read, and that each is a number in 0..M.
+-- "a plane sample or edge entry that is read is not a number in 0..M" (document 01, Refusal numbers, 8): which samples are read, and their test.
 use mathlib.Core.Bool.{Bool, _&&_}
 use mathlib.Core.List.{List, [], _∷_}
 use Prim.Native.Nat.{ℕ, _*_}

@@ -1,4 +1,4 @@
--- What the edges hold.
+-- What the edges hold (document 01, From samples to edges).
 use mathlib.Core.List.{List}
 use Prim.Native.Nat.{ℕ}
 use lib.IntN.{ℤ}

@@ -16,7 +16,7 @@ use Rattle.lists.specs.Fill.{tab}
 use Rattle.lists.proofs.Fill.{length-tab, tab-at}
 use Rattle.direct_calls.specs.Given.{Given}
 use Rattle.direct_calls.proofs.Accepted.{size-most}
-use Rattle.smooth_steps.specs.Parts.{entry, weighed, Step, Entries, Weights}
+use Rattle.smooth_steps.specs.Parts.{edgeAt, weighed, Step, Entries, Weights}
 use Rattle.smooth_steps.proofs.Steps.{entry-in, entry-abs, entry-most}
 use Rattle.smooth_weights.specs.Weights.{log2, scale, weight}
 use Rattle.smooth_weights.specs.Reach.{reachOf}
@@ -57,10 +57,10 @@ module _ (B : ℕ) (size : isSize B ≡ true) where
     pub end-there : B < length ends
     end-there = omega (arith, h .long, past-end)
 
-    pub end-in : inside (pos 4095) (toZ w32 (ofZ w32 (entry ends B))) ≡ true
+    pub end-in : inside (pos 4095) (toZ w32 (ofZ w32 (edgeAt ends B))) ≡ true
     end-in = entry-in h B past-end
 
-    pub end-step : {e k : ℕ} → e ≡ natAbs (toZ w32 (ofZ w32 (entry ends B))) → k ≡ log2 B → Step e 0 B k
+    pub end-step : {e k : ℕ} → e ≡ natAbs (toZ w32 (ofZ w32 (edgeAt ends B))) → k ≡ log2 B → Step e 0 B k
     end-step ee ek =
         let f = sized B size in
         record { end = omega (arith, ee, entry-abs h B past-end, entry-most h B past-end); few = omega arith; power = f .power ∙ ap (λ n. 2 ^ n) (sym ek); small = omega (arith, f .high, ek) }
@@ -88,9 +88,9 @@ module _ (B : ℕ) (size : isSize B ≡ true) where
         record { long = w .long; within = omega arith; parts = w .parts; none = λ i h l. absurd (omega arith) }
 
     -- column (or row) i of the edge and row (or column) y
-    pub place : {edge ends : List ℤ} {e : ℕ} → Entries edge (2 * B) → Entries ends (2 * B) → e ≡ natAbs (toZ w32 (ofZ w32 (entry ends B)))
+    pub place : {edge ends : List ℤ} {e : ℕ} → Entries edge (2 * B) → Entries ends (2 * B) → e ≡ natAbs (toZ w32 (ofZ w32 (edgeAt ends B)))
         → (i y : ℕ) → i < B → y < B
-        → pos (weighed B e (natAbs (entry edge i)) (B - 1 - y) (getD weights y 0)) ≡ smoothed B (entry ends B) (entry edge i) y
+        → pos (weighed B e (natAbs (edgeAt edge i)) (B - 1 - y) (getD weights y 0)) ≡ smoothed B (edgeAt ends B) (edgeAt edge i) y
     place {edge} {ends} h g ee i y hi hy =
-        place-is B size 4095 (entry ends B) (entry edge i) y (g .samples B past-end) (h .samples i (omega arith)) (ee ∙ entry-abs g B past-end)
+        place-is B size 4095 (edgeAt ends B) (edgeAt edge i) y (g .samples B past-end) (h .samples i (omega arith)) (ee ∙ entry-abs g B past-end)
         (weights-at y hy ∙ ap (λ n. weight n y) es)

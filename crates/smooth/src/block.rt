@@ -5,7 +5,7 @@ ghost use lib.IntN.{pos, natAbs};
 ghost use lib.ListN.{length, getD};
 ghost use Rattle.lists.specs.Block.{block};
 ghost use Rattle.direct_calls.specs.Given.{Given};
-ghost use Rattle.smooth_steps.specs.Parts.{entry, weighed, Entries, Step, Weights};
+ghost use Rattle.smooth_steps.specs.Parts.{edgeAt, weighed, Entries, Step, Weights};
 ghost use Rattle.smooth_spec.specs.Smooth.{smoothVAt, smoothHAt, smoothAt};
 
 // A block of smooth_v samples.
@@ -36,7 +36,7 @@ fn lined_h_rows(
 )
     requires { ⌜ Entries (now left) bs × Step e 0 bs k × (bs ≤ 64) × (bs * bs ≤ length (now out)) ⌝ }
     requires { ⌜ Weights (now weights) bs reach ⌝ }
-    ensures { λ _. ⌜ now (out .exit) ≡ block bs bs (λ r c. pos (weighed bs e (natAbs (entry (now (left .entry)) r)) (bs - 1 - c) (getD (now (weights .entry)) c 0))) (now (out .entry)) ⌝ }
+    ensures { λ _. ⌜ now (out .exit) ≡ block bs bs (λ r c. pos (weighed bs e (natAbs (edgeAt (now (left .entry)) r)) (bs - 1 - c) (getD (now (weights .entry)) c 0))) (now (out .entry)) ⌝ }
 {
     let mut line = [0u32; 64];
     smooth_rows::smooth_h_rows(bs, k, left, e, weights, reach, &mut line, out);

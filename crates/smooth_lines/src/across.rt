@@ -6,7 +6,7 @@ ghost use lib.IntN.{pos, natAbs};
 ghost use lib.ListN.{length, getD};
 ghost use Rattle.lists.specs.Fill.{tab, filled};
 ghost use Rattle.lists.specs.Block.{sample};
-ghost use Rattle.smooth_steps.specs.Parts.{entry, part, weighed, Step, Entries, Weights};
+ghost use Rattle.smooth_steps.specs.Parts.{edgeAt, part, weighed, Step, Entries, Weights};
 
 // The columns from `from` on, without weights.
 fn ramp_line(l: u32, e: u32, m: u32, k: u32, from: usize, line: &mut [u32])
@@ -50,7 +50,7 @@ pub fn across(
     line: &mut [u32],
 )
     requires { ⌜ Step e 0 bs k × Entries (now left) bs × (r < bs) × (bs ≤ length (now line)) × Weights (now weights) bs reach ⌝ }
-    ensures { λ _. ⌜ now (line .exit) ≡ filled bs (λ c. weighed bs e (natAbs (entry (now (left .entry)) r)) (bs - 1 - c) (getD (now (weights .entry)) c 0)) (now (line .entry)) ⌝ }
+    ensures { λ _. ⌜ now (line .exit) ≡ filled bs (λ c. weighed bs e (natAbs (edgeAt (now (left .entry)) r)) (bs - 1 - c) (getD (now (weights .entry)) c 0)) (now (line .entry)) ⌝ }
 {
     let m = bs as u32;
     let l = smooth_steps::natural(left[r]);

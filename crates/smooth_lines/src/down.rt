@@ -6,12 +6,12 @@ ghost use lib.IntN.{pos, natAbs};
 ghost use lib.ListN.{length, getD};
 ghost use Rattle.lists.specs.Fill.{tab};
 ghost use Rattle.lists.specs.Block.{sample};
-ghost use Rattle.smooth_steps.specs.Parts.{entry, part, weighed, mean, Step, Entries};
+ghost use Rattle.smooth_steps.specs.Parts.{edgeAt, part, weighed, mean, Step, Entries};
 
 // A row without weight.
 fn ramp_row(above: &[i32], e: u32, w: u32, m: u32, k: u32, row: &mut [f32])
     requires { ⌜ Entries (now above) (length (now row)) × Step e w m k ⌝ }
-    ensures { λ _. ⌜ now (row .exit) ≡ tab (length (now (row .entry))) (λ c. sample (pos (part m e (natAbs (entry (now (above .entry)) c)) w))) ⌝ }
+    ensures { λ _. ⌜ now (row .exit) ≡ tab (length (now (row .entry))) (λ c. sample (pos (part m e (natAbs (edgeAt (now (above .entry)) c)) w))) ⌝ }
 {
     let rest = e * (m - w) + m / 2;
     let mut c = 0;
@@ -24,7 +24,7 @@ fn ramp_row(above: &[i32], e: u32, w: u32, m: u32, k: u32, row: &mut [f32])
 // A row with the weight v.
 fn smooth_row(above: &[i32], e: u32, w: u32, m: u32, k: u32, v: u32, row: &mut [f32])
     requires { ⌜ Entries (now above) (length (now row)) × Step e w m k × (v < 64) ⌝ }
-    ensures { λ _. ⌜ now (row .exit) ≡ tab (length (now (row .entry))) (λ c. sample (pos (weighed m e (natAbs (entry (now (above .entry)) c)) w v))) ⌝ }
+    ensures { λ _. ⌜ now (row .exit) ≡ tab (length (now (row .entry))) (λ c. sample (pos (weighed m e (natAbs (edgeAt (now (above .entry)) c)) w v))) ⌝ }
 {
     let rest = e * (m - w) + m / 2;
     let mut c = 0;
@@ -47,7 +47,7 @@ pub fn mean_row(
 )
     requires { ⌜ Entries (now above) (length (now row)) × Step e w m k × (v < 64) ⌝ }
     requires { ⌜ (length (now row) ≤ length (now line)) × ((i : ℕ) → i < length (now row) → getD (now line) i 0 ≤ 4095) ⌝ }
-    ensures { λ _. ⌜ now (row .exit) ≡ tab (length (now (row .entry))) (λ c. sample (pos (mean (weighed m e (natAbs (entry (now (above .entry)) c)) w v) (getD (now (line .entry)) c 0)))) ⌝ }
+    ensures { λ _. ⌜ now (row .exit) ≡ tab (length (now (row .entry))) (λ c. sample (pos (mean (weighed m e (natAbs (edgeAt (now (above .entry)) c)) w v) (getD (now (line .entry)) c 0)))) ⌝ }
 {
     let rest = e * (m - w) + m / 2;
     let mut c = 0;
@@ -61,7 +61,7 @@ pub fn mean_row(
 // A row with the weight v, which most rows do not have; a row of four has its own way.
 pub fn weighted_row(above: &[i32], e: u32, w: u32, m: u32, k: u32, v: u32, row: &mut [f32])
     requires { ⌜ Entries (now above) (length (now row)) × Step e w m k × (v < 64) ⌝ }
-    ensures { λ _. ⌜ now (row .exit) ≡ tab (length (now (row .entry))) (λ c. sample (pos (weighed m e (natAbs (entry (now (above .entry)) c)) w v))) ⌝ }
+    ensures { λ _. ⌜ now (row .exit) ≡ tab (length (now (row .entry))) (λ c. sample (pos (weighed m e (natAbs (edgeAt (now (above .entry)) c)) w v))) ⌝ }
 {
     if row.len() == 4 {
         quad::quad_row(above, e, w, m, k, v, row);

@@ -5,12 +5,12 @@ ghost use lib.IntN.{pos, natAbs};
 ghost use lib.ListN.{length, getD};
 ghost use Rattle.lists.specs.Fill.{tab};
 ghost use Rattle.lists.specs.Block.{sample};
-ghost use Rattle.smooth_steps.specs.Parts.{entry, weighed, Step, Entries, Weights};
+ghost use Rattle.smooth_steps.specs.Parts.{edgeAt, weighed, Step, Entries, Weights};
 
 // A row from four entries of the edge above.
 pub(crate) fn quad_row(above: &[i32], e: u32, w: u32, m: u32, k: u32, v: u32, row: &mut [f32])
     requires { ⌜ (length (now row) ≡ 4) × Entries (now above) 4 × Step e w m k × (v < 64) ⌝ }
-    ensures { λ _. ⌜ now (row .exit) ≡ tab (length (now (row .entry))) (λ c. sample (pos (weighed m e (natAbs (entry (now (above .entry)) c)) w v))) ⌝ }
+    ensures { λ _. ⌜ now (row .exit) ≡ tab (length (now (row .entry))) (λ c. sample (pos (weighed m e (natAbs (edgeAt (now (above .entry)) c)) w v))) ⌝ }
 {
     let x = smooth_steps::entry_sample(above[0], e, w, m, k, v);
     let y = smooth_steps::entry_sample(above[1], e, w, m, k, v);

@@ -7,13 +7,13 @@ ghost use Prim.Native.Nat.{_-_, _*_, _≤_};
 ghost use lib.IntN.{pos, natAbs};
 ghost use lib.ListN.{length, getD};
 ghost use Rattle.lists.specs.Block.{block};
-ghost use Rattle.smooth_steps.specs.Parts.{entry, weighed, mean, Entries, Step, Weights};
+ghost use Rattle.smooth_steps.specs.Parts.{edgeAt, weighed, mean, Entries, Step, Weights};
 
 // Down from the edge above to the end e.
 pub fn smooth_v_rows(bs: usize, k: u32, above: &[i32], e: u32, weights: &[u8], out: &mut [f32])
     requires { ⌜ Entries (now above) bs × Step e 0 bs k × (bs * bs ≤ length (now out)) ⌝ }
     requires { ⌜ Weights (now weights) bs bs ⌝ }
-    ensures { λ _. ⌜ now (out .exit) ≡ block bs bs (λ r c. pos (weighed bs e (natAbs (entry (now (above .entry)) c)) (bs - 1 - r) (getD (now (weights .entry)) r 0))) (now (out .entry)) ⌝ }
+    ensures { λ _. ⌜ now (out .exit) ≡ block bs bs (λ r c. pos (weighed bs e (natAbs (edgeAt (now (above .entry)) c)) (bs - 1 - r) (getD (now (weights .entry)) r 0))) (now (out .entry)) ⌝ }
 {
     let m = bs as u32;
     let mut o = 0;
@@ -40,7 +40,7 @@ pub fn smooth_h_rows(
 )
     requires { ⌜ Entries (now left) bs × Step e 0 bs k × (bs ≤ length (now line)) × (bs * bs ≤ length (now out)) ⌝ }
     requires { ⌜ Weights (now weights) bs reach ⌝ }
-    ensures { λ _. ⌜ now (out .exit) ≡ block bs bs (λ r c. pos (weighed bs e (natAbs (entry (now (left .entry)) r)) (bs - 1 - c) (getD (now (weights .entry)) c 0))) (now (out .entry)) ⌝ }
+    ensures { λ _. ⌜ now (out .exit) ≡ block bs bs (λ r c. pos (weighed bs e (natAbs (edgeAt (now (left .entry)) r)) (bs - 1 - c) (getD (now (weights .entry)) c 0))) (now (out .entry)) ⌝ }
 {
     let mut o = 0;
     let mut r = 0;
@@ -57,7 +57,7 @@ pub fn smooth_h_rows(
 pub fn quad_h_rows(bs: usize, k: u32, left: &[i32], e: u32, weights: &[u8], out: &mut [f32])
     requires { ⌜ (bs ≡ 4) × Entries (now left) bs × Step e 0 bs k × (bs * bs ≤ length (now out)) ⌝ }
     requires { ⌜ Weights (now weights) bs bs ⌝ }
-    ensures { λ _. ⌜ now (out .exit) ≡ block bs bs (λ r c. pos (weighed bs e (natAbs (entry (now (left .entry)) r)) (bs - 1 - c) (getD (now (weights .entry)) c 0))) (now (out .entry)) ⌝ }
+    ensures { λ _. ⌜ now (out .exit) ≡ block bs bs (λ r c. pos (weighed bs e (natAbs (edgeAt (now (left .entry)) r)) (bs - 1 - c) (getD (now (weights .entry)) c 0))) (now (out .entry)) ⌝ }
 {
     let m = bs as u32;
     let mut o = 0;
@@ -92,7 +92,7 @@ pub fn smooth_rows(
 )
     requires { ⌜ Entries (now above) bs × Step e 0 bs k × Entries (now left) bs × Step f 0 bs k × (bs ≤ length (now line)) × (bs * bs ≤ length (now out)) ⌝ }
     requires { ⌜ Weights (now weights) bs reach ⌝ }
-    ensures { λ _. ⌜ now (out .exit) ≡ block bs bs (λ r c. pos (mean (weighed bs e (natAbs (entry (now (above .entry)) c)) (bs - 1 - r) (getD (now (weights .entry)) r 0)) (weighed bs f (natAbs (entry (now (left .entry)) r)) (bs - 1 - c) (getD (now (weights .entry)) c 0)))) (now (out .entry)) ⌝ }
+    ensures { λ _. ⌜ now (out .exit) ≡ block bs bs (λ r c. pos (mean (weighed bs e (natAbs (edgeAt (now (above .entry)) c)) (bs - 1 - r) (getD (now (weights .entry)) r 0)) (weighed bs f (natAbs (edgeAt (now (left .entry)) r)) (bs - 1 - c) (getD (now (weights .entry)) c 0)))) (now (out .entry)) ⌝ }
 {
     let m = bs as u32;
     let mut o = 0;

@@ -10,7 +10,7 @@ use Rattle.numbers.specs.Size.{isSize}
 use Rattle.signed.specs.Range.{inside, Edge}
 use Rattle.signed.proofs.Mean.{mean-is}
 use Rattle.signed.proofs.Range.{inside-abs, inside-pos, pos-inside}
-use Rattle.smooth_steps.specs.Parts.{entry, part, weighed, mean}
+use Rattle.smooth_steps.specs.Parts.{edgeAt, part, weighed, mean}
 use Rattle.smooth_steps.proofs.Parts.{weighed-most}
 use Rattle.smooth_weights.specs.Weights.{log2, scale, weight}
 use Rattle.smooth_weights.proofs.Sizes.{sized, size-some}
@@ -52,10 +52,10 @@ module _ (B : ℕ) (size : isSize B ≡ true) (M : ℕ) (e t : ℤ) (y : ℕ) (h
 -- ---- the three predictors, each sample as the rows work it out, and in 0..M
 module _ (B M : ℕ) (above left : List ℤ) (k : ℤ) (r c : ℕ) (size : isSize B ≡ true) (ha : Edge M (2 * B) above) (hl : Edge M (2 * B) left) (hr : r < B) (hc : c < B) where
   abbrev down : ℕ
-  down = natural B size M (entry left B) (entry above c) r (hl B (omega arith)) (ha c (omega arith))
+  down = natural B size M (edgeAt left B) (edgeAt above c) r (hl B (omega arith)) (ha c (omega arith))
 
   abbrev across : ℕ
-  across = natural B size M (entry above B) (entry left r) c (ha B (omega arith)) (hl r (omega arith))
+  across = natural B size M (edgeAt above B) (edgeAt left r) c (ha B (omega arith)) (hl r (omega arith))
 
   pub smoothV-is : smoothVAt B above left k r c ≡ pos down
   smoothV-is = smoothed-is B size M _ _ _ (hl B (omega arith)) (ha c (omega arith))

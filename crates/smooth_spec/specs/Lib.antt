@@ -1,2 +1,2 @@
--- To believe: Smooth, from document 01; its weights stand in `smooth_weights`.
+-- To believe: Smooth (document 01, The predictors); its weights stand in `smooth_weights`.
 pub mod Smooth

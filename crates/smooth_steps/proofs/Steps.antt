@@ -15,7 +15,7 @@ use Rattle.signed.proofs.Bound.{back-abs}
 use Rattle.signed.proofs.Range.{inside-abs}
 use Rattle.lists.specs.Fill.{filled}
 use Rattle.lists.proofs.Fill.{length-filled, filled-at}
-use Rattle.smooth_steps.specs.Parts.{entry, part, weighed, Step, Entries, Weights}
+use Rattle.smooth_steps.specs.Parts.{edgeAt, part, weighed, Step, Entries, Weights}
 use Rattle.smooth_steps.proofs.Parts.{ramp-is, part-most, weighed-most}
 
 module _ {e w m k : ℕ} (s : Step e w m k) where
@@ -47,16 +47,16 @@ by-parts s w h = record { end = s .end; few = h; power = s .power; small = s .sm
 
 -- an entry, as the code reads it
 module _ {edge : List ℤ} {n : ℕ} (s : Entries edge n) (i : ℕ) (l : i < n) where
-  pub entry-most : natAbs (entry edge i) ≤ 4095
-  entry-most = inside-abs 4095 (entry edge i) (s .samples i l)
+  pub entry-most : natAbs (edgeAt edge i) ≤ 4095
+  entry-most = inside-abs 4095 (edgeAt edge i) (s .samples i l)
 
-  back : toZ w32 (ofZ w32 (entry edge i)) ≡ entry edge i
-  back = back-abs w32 (entry edge i) (omega (arith, entry-most))
+  back : toZ w32 (ofZ w32 (edgeAt edge i)) ≡ edgeAt edge i
+  back = back-abs w32 (edgeAt edge i) (omega (arith, entry-most))
 
-  pub entry-in : inside (pos 4095) (toZ w32 (ofZ w32 (entry edge i))) ≡ true
+  pub entry-in : inside (pos 4095) (toZ w32 (ofZ w32 (edgeAt edge i))) ≡ true
   entry-in = rw back (s .samples i l)
 
-  pub entry-abs : natAbs (toZ w32 (ofZ w32 (entry edge i))) ≡ natAbs (entry edge i)
+  pub entry-abs : natAbs (toZ w32 (ofZ w32 (edgeAt edge i))) ≡ natAbs (edgeAt edge i)
   entry-abs = ap natAbs back
 
 -- a whole line from l, as `across` leaves it

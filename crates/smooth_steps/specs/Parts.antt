@@ -1,4 +1,4 @@
--- What the rows work out, in ℕ, where nothing is negative. That these are the samples of document 01 is shown in `smooth`.
+-- What the rows work out, in ℕ, where nothing is negative. That these are the samples of document 01 is shown in `smooth_spec`.
 use mathlib.Core.Path.{_≡_}
 use mathlib.Core.List.{List}
 use Prim.Native.Nat.{ℕ, _+_, _-_, _*_, _/_, _^_, _≤_, _<_}
@@ -7,8 +7,8 @@ use lib.ListN.{length, getD}
 use Rattle.signed.specs.Range.{Edge}
 
 -- an entry of an edge
-abbrev pub entry : List ℤ → ℕ → ℤ
-entry edge i = getD edge i (pos 0)
+abbrev pub edgeAt : List ℤ → ℕ → ℤ
+edgeAt edge i = getD edge i (pos 0)
 
 -- from x to y by w parts of m, rounded
 unfoldable pub part : ℕ → ℕ → ℕ → ℕ → ℕ

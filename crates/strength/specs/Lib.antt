@@ -1,3 +1,3 @@
--- How an edge and the corner are filtered, from document 01: a reader must believe all of it.
+-- The strength by which an edge is filtered, and the filtered corner (document 01, Directions): a reader must believe all of it.
 pub mod Strength
 pub mod Corner

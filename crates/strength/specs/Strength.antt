@@ -1,5 +1,5 @@
 -- "Filter strength by 2B and distance d of the angle from its edge's own axis (90 for above, 180 for left)." (document 01, Directions; the cases
--- between 16 and 24 are the source's, and no block of five sizes has them)
+-- between 16 and 24 are the source's, and no block of the five sizes has them)
 use Prim.Native.Nat.{ℕ}
 use mathlib.Core.Bool.{Bool, cond}
 use lib.Dec.{leb}

@@ -1,1 +1,1 @@
-// No code: the samples that a job reads and writes (specs/), and that they are the samples of its rectangles (proofs/).
+// No code: the samples that a job reads and writes (specs/), and the law that they are those of its rectangles (proofs/).

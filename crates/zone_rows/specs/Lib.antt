@@ -1,2 +1,2 @@
--- What rows along a list of entries hold: plumbing, which the laws of zones lead back to the zones' definitions.
+-- What rows along a list of entries hold: plumbing, which the laws of `zone_spec` lead back to the zones' definitions.
 pub mod Listed

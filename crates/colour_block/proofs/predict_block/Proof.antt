@@ -8,9 +8,9 @@ use mir.Facts.{toZ-ofZ}
 use Rattle.numbers.specs.Answer.{isDone}
 use Rattle.numbers.proofs.Named.{done-is}
 use Rattle.refusals.proofs.Promise.{refused, finished}
-use Rattle.colour_block.specs.Predicted.{blockOf}
+use Rattle.colour_block.specs.Predicted.{blockFrom}
 use Rattle.colour_rules.specs.declared.block.Block.{Block}
-use Rattle.colour_block.specs.Accepted.{Accepted}
+use Rattle.colour_block.specs.Accepted.{BlockAccepted}
 use Rattle.colour_block.proofs.Accepted.{accepted}
 use Rattle.colour_block.proofs.predict_block.Statement.{statement}
 use Rattle.colour_block.proofs.predict_block.Tie as tie
@@ -21,12 +21,12 @@ module _ (c : tie.Else1) where
   s = c .before .before .before
 
   abbrev b : Block
-  b = blockOf (s .args .sizes) (s .args .width) (s .args .height) (s .args .have-top) (s .args .have-left) (s .args .direction) (s .args .d)
+  b = blockFrom (s .args .sizes) (s .args .width) (s .args .height) (s .args .have-top) (s .args .have-left) (s .args .direction) (s .args .d)
 
   done : isDone (c .before .before .refused .result) ≡ true
   done = sym (c .before .is-done .ensures) ∙ not-false (c .before .is-done .result) (c .if1 .left)
 
-  granted : Accepted (s .args .luma .now) b (length (s .args .out .now))
+  granted : BlockAccepted (s .args .luma .now) b (length (s .args .out .now))
   granted = accepted _ _ _ (sym (c .before .before .refused .ensures) ∙ done-is _ done)
 
 refused-requires : tie.Need-refused-requires

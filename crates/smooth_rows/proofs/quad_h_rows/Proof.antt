@@ -11,13 +11,13 @@ use Rattle.lists.specs.Block.{rows, sample}
 use Rattle.lists.proofs.Fill.{filled-none}
 use Rattle.lists.proofs.Block.{filled-row, part-length}
 use Rattle.lists.proofs.RowLoop.{row-room, all-rows}
-use Rattle.smooth_steps.specs.Parts.{entry, weighed, Weights}
+use Rattle.smooth_steps.specs.Parts.{edgeAt, weighed, Weights}
 use Rattle.smooth_steps.proofs.Steps.{entry-in, entry-abs, entry-most}
 use Rattle.smooth_rows.proofs.quad_h_rows.Statement.{statement}
 use Rattle.smooth_rows.proofs.quad_h_rows.Tie as tie
 
 abbrev at : ℕ → List ℤ → ℕ → List ℕ → ℕ → ℕ → Float
-at bs left e weights r c = sample (pos (weighed bs e (natAbs (entry left r)) (bs - 1 - c) (getD weights c 0)))
+at bs left e weights r c = sample (pos (weighed bs e (natAbs (edgeAt left r)) (bs - 1 - c) (getD weights c 0)))
 
 abbrev Inv-loop : tie.InvT-loop
 Inv-loop bs k left e weights out₀ m o₀ r₀ out o r =
@@ -68,7 +68,7 @@ module _ (c : tie.After-natural Inv-loop μ-loop) where
   abbrev i : tie.In-loop Inv-loop μ-loop
   i = c .before .before
 
-  left-is : c .natural .result ≡ natAbs (entry (s i .args .left .now) (i .before .loop .r))
+  left-is : c .natural .result ≡ natAbs (edgeAt (s i .args .left .now) (i .before .loop .r))
   left-is = c .natural .ensures ∙ entry-abs (s i .pre .0 .1) (i .before .loop .r) (omega arith)
 
 mul-quad-across : tie.Need-mul-quad-across Inv-loop μ-loop

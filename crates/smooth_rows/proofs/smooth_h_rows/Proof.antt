@@ -11,13 +11,13 @@ use Rattle.lists.specs.Block.{rows, sample}
 use Rattle.lists.proofs.Fill.{filled-none}
 use Rattle.lists.proofs.Block.{filled-row, part-length}
 use Rattle.lists.proofs.RowLoop.{row-room, all-rows}
-use Rattle.smooth_steps.specs.Parts.{entry, weighed}
+use Rattle.smooth_steps.specs.Parts.{edgeAt, weighed}
 use Rattle.smooth_steps.proofs.Steps.{entry-most, line-long, line-at, line-most}
 use Rattle.smooth_rows.proofs.smooth_h_rows.Statement.{statement}
 use Rattle.smooth_rows.proofs.smooth_h_rows.Tie as tie
 
 abbrev at : ℕ → List ℤ → ℕ → List ℕ → ℕ → ℕ → Float
-at bs left e weights r c = sample (pos (weighed bs e (natAbs (entry left r)) (bs - 1 - c) (getD weights c 0)))
+at bs left e weights r c = sample (pos (weighed bs e (natAbs (edgeAt left r)) (bs - 1 - c) (getD weights c 0)))
 
 abbrev Inv-loop : tie.InvT-loop
 Inv-loop bs k left e weights reach line₀ out₀ o₀ r₀ line out o r =
@@ -63,7 +63,7 @@ sample-row-requires c κs =
     let t = a .before .before in
     let p = s t .pre in
     let l = t .before .loop in
-    let u = natAbs (entry (s t .args .left .now) (l .r)) in
+    let u = natAbs (edgeAt (s t .args .left .now) (l .r)) in
     let long = line-long (p .0 .1) (p .1) u (l .line) (a .across .ensures) (omega arith) in
     simp (part-length (l .o) (s t .args .bs) (l .out) (room t))
     (omega arith, line-most (p .0 .1) (p .1) u (l .line) (a .across .ensures) (entry-most (s t .pre .0 .0) (l .r) (t .loop-test .taken)))
@@ -81,7 +81,7 @@ loop-again c =
     let p = s t .pre in
     let l = t .before .loop in
     let g = s t .args in
-    let u = natAbs (entry (g .left .now) (l .r)) in (
+    let u = natAbs (edgeAt (g .left .now) (l .r)) in (
       omega arith,
       omega arith,
       line-long (p .0 .1) (p .1) u (l .line) (a .across .ensures) (omega arith) ∙ l .inv .2,

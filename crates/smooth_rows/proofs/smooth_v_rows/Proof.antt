@@ -11,13 +11,13 @@ use Rattle.lists.specs.Block.{rows, sample}
 use Rattle.lists.proofs.Fill.{filled-none}
 use Rattle.lists.proofs.Block.{filled-row, part-length}
 use Rattle.lists.proofs.RowLoop.{row-room, all-rows}
-use Rattle.smooth_steps.specs.Parts.{entry, weighed}
+use Rattle.smooth_steps.specs.Parts.{edgeAt, weighed}
 use Rattle.smooth_steps.proofs.Steps.{parts-most, by-parts}
 use Rattle.smooth_rows.proofs.smooth_v_rows.Statement.{statement}
 use Rattle.smooth_rows.proofs.smooth_v_rows.Tie as tie
 
 abbrev at : ℕ → List ℤ → ℕ → List ℕ → ℕ → ℕ → Float
-at bs above e weights r c = sample (pos (weighed bs e (natAbs (entry above c)) (bs - 1 - r) (getD weights r 0)))
+at bs above e weights r c = sample (pos (weighed bs e (natAbs (edgeAt above c)) (bs - 1 - r) (getD weights r 0)))
 
 abbrev Inv-loop : tie.InvT-loop
 Inv-loop bs k above e weights out₀ m o₀ r₀ out o r =

@@ -10,14 +10,14 @@ use Rattle.lists.proofs.Fill.{filled-none}
 use Rattle.lists.proofs.Block.{filled-row, part-length}
 use Rattle.colour_row.specs.Mixed.{mixed}
 use Rattle.colour_row.specs.Runs.{at}
-use Rattle.colour_block.specs.Lines.{startOf, tap, found}
+use Rattle.colour_block.specs.Lines.{rowStart, directionEntry, found}
 use Rattle.colour_block.proofs.Taken.{line-of, line-at}
 use Rattle.colour_block.proofs.block.lines.Statement.{statement}
 use Rattle.colour_block.proofs.block.lines.Tie as tie
 
 abbrev Inv-loop : tie.InvT-loop
 Inv-loop luma b k t0 t1 out₀ width height lead s₀ o₀ j₀ out s o j =
-    (j ≤ b .height) × (o ≡ j * b .width) × (s ≡ startOf b j) × (length out ≡ length out₀) × (out ≡ filled o (rows (b .width) (found k luma b)) out₀)
+    (j ≤ b .height) × (o ≡ j * b .width) × (s ≡ rowStart b j) × (length out ≡ length out₀) × (out ≡ filled o (rows (b .width) (found k luma b)) out₀)
 
 abbrev μ-loop : tie.MeasureT-loop
 μ-loop luma b k t0 t1 out₀ width height lead s₀ o₀ j₀ out s o j = b .height - j
@@ -99,7 +99,7 @@ loop-again c =
       omega arith,
       c .out .given .1 ∙ k .loop .inv .3,
       filled-row (b .width) (k .loop .j) (k .loop .o) (found mix luma b) _ _ _ _ (k .loop .inv .1) (room l) (k .loop .inv .4) (c .before .line .ensures)
-          (λ i h x. mixed mix (at luma (tap (k .loop .inv .2 x) (t .step-of .ensures x) (lead x) i)) (at luma (k .loop .inv .2 x + i))),
+          (λ i h x. mixed mix (at luma (directionEntry (k .loop .inv .2 x) (t .step-of .ensures x) (lead x) i)) (at luma (k .loop .inv .2 x + i))),
     )
 
 same-length : tie.Need-same-length Inv-loop μ-loop

@@ -16,8 +16,8 @@ use Rattle.signed.proofs.Bound.{back}
 use Rattle.refusals.specs.Ladder.{Rule, ladder}
 use Rattle.refusals.proofs.Ladder.{kept}
 use Rattle.colour_terms.specs.Reference.{isReference, isLines}
-use Rattle.colour_rules.specs.Placed.{Placed}
-use Rattle.colour_rules.specs.Rules.{isPlaced, hasNeighbours, predictRules, predictAnswer}
+use Rattle.colour_rules.specs.Placed.{InReference}
+use Rattle.colour_rules.specs.Rules.{isPlaced, hasLines, predictRules, predictAnswer}
 use Rattle.colour_rules.proofs.Granted.{placed}
 use Rattle.colour_rules.proofs.refused.Tie as tie
 
@@ -94,13 +94,13 @@ module _ (c : tie.Else5) where
   abbrev pub t6 : tie.Start
   t6 = t3 (c3 (c4 c5))
 
-  neighbours : hasNeighbours (t6 .args .b) ≡ true
+  neighbours : hasLines (t6 .args .b) ≡ true
   neighbours = sym (c .before .has-neighbours .ensures) ∙ not-false (c .before .has-neighbours .result) (c .if5 .left)
 
   pub six : After t6 6
   six = kept _ _ _ _ neighbours (five c5)
 
-  pub place : Placed (t6 .args .b) (length (t6 .args .luma .now))
+  pub place : InReference (t6 .args .b) (length (t6 .args .luma .now))
   place = placed _ _ (reference (c3 (c4 c5))) (lines (c4 c5)) (stands c5) neighbours
 
 module _ (c : tie.Else6) where

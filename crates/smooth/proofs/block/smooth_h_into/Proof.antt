@@ -7,7 +7,7 @@ use lib.ListN.{getD}
 use Rattle.lists.specs.Block.{block}
 use Rattle.lists.proofs.Block.{block-same}
 use Rattle.direct_calls.proofs.Accepted.{size-most}
-use Rattle.smooth_steps.specs.Parts.{entry, weighed, Entries, Step}
+use Rattle.smooth_steps.specs.Parts.{edgeAt, weighed, Entries, Step}
 use Rattle.smooth_spec.specs.Smooth.{smoothHAt}
 use Rattle.smooth.proofs.Ready.{above-entries, left-entries, first-half, end-there, end-in, end-step, scale-low, weights-are, all-weights, place}
 use Rattle.smooth.proofs.block.smooth_h_into.Statement.{statement}
@@ -34,7 +34,7 @@ module _ (n : tie.After-natural) where
   half = first-half B (s .pre .size) (left-entries (s .pre))
 
   -- and what the rows then hold
-  same : block B B (λ r c. pos (weighed B (n .natural .result) (natAbs (entry (s .args .left .now) r)) (B - 1 - c) (getD (w .weights-of .result) c 0))) (s .args .out .now)
+  same : block B B (λ r c. pos (weighed B (n .natural .result) (natAbs (edgeAt (s .args .left .now) r)) (B - 1 - c) (getD (w .weights-of .result) c 0))) (s .args .out .now)
       ≡ block B B (smoothHAt B (s .args .above .now) (s .args .left .now) (pos 0)) (s .args .out .now)
   same =
       block-same B B _ _ (s .args .out .now)

@@ -8,7 +8,7 @@ use lib.IntN.{natAbs}
 use lib.ListN.{length, getD, length-take}
 use Rattle.lists.specs.Fill.{filled}
 use Rattle.lists.proofs.Fill.{filled-none, filled-part, length-filled}
-use Rattle.smooth_steps.specs.Parts.{entry, weighed}
+use Rattle.smooth_steps.specs.Parts.{edgeAt, weighed}
 use Rattle.smooth_steps.proofs.Parts.{weighed-none}
 use Rattle.smooth_steps.proofs.Steps.{parts-most, entry-in, entry-abs, entry-most}
 use Rattle.smooth_lines.proofs.across.across.Statement.{statement}
@@ -33,7 +33,7 @@ module _ (c : tie.After-natural) where
   abbrev s : tie.Start
   s = c .before .before .before .before
 
-  left-is : c .natural .result ≡ natAbs (entry (s .args .left .now) (s .args .r))
+  left-is : c .natural .result ≡ natAbs (edgeAt (s .args .left .now) (s .args .r))
   left-is = c .natural .ensures ∙ entry-abs (s .pre .1) (s .args .r) (s .pre .2)
 
   left-most : c .natural .result ≤ 4095

@@ -9,14 +9,14 @@ use lib.Ieee.{Float, nan}
 use Rattle.lists.specs.Fill.{filled}
 use Rattle.lists.specs.Block.{sample}
 use Rattle.lists.proofs.Fill.{filled-none, filled-more, filled-all}
-use Rattle.smooth_steps.specs.Parts.{entry, weighed}
+use Rattle.smooth_steps.specs.Parts.{edgeAt, weighed}
 use Rattle.smooth_steps.proofs.Steps.{rest-most, both-most, entry-in, entry-abs, entry-most}
 use Rattle.smooth_lines.proofs.down.smooth_row.Statement.{statement}
 use Rattle.smooth_lines.proofs.down.smooth_row.Tie as tie
 
 -- the row's samples
 abbrev row-of : List ℤ → ℕ → ℕ → ℕ → ℕ → ℕ → Float
-row-of above e w m v i = sample (pos (weighed m e (natAbs (entry above i)) w v))
+row-of above e w m v i = sample (pos (weighed m e (natAbs (edgeAt above i)) w v))
 
 abbrev Inv-loop : tie.InvT-loop
 Inv-loop above e w m k v row₀ rest c₀ row c = (c ≤ length row₀) × (length row ≡ length row₀) × (row ≡ filled c (row-of above e w m v) row₀)
@@ -51,7 +51,7 @@ module _ (c : tie.In-loop Inv-loop μ-loop) where
   i = c .before .loop .c
 
   abbrev t : ℕ
-  t = natAbs (entry (s .args .above .now) i)
+  t = natAbs (edgeAt (s .args .above .now) i)
 
 smooth-to-requires : tie.Need-smooth-to-requires Inv-loop μ-loop
 smooth-to-requires c κs =

@@ -6,7 +6,7 @@ use lib.IntN.{pos, natAbs}
 use lib.ListN.{length}
 use Rattle.lists.specs.Fill.{tab}
 use Rattle.lists.specs.Block.{sample}
-use Rattle.smooth_steps.specs.Parts.{entry}
+use Rattle.smooth_steps.specs.Parts.{edgeAt}
 use Rattle.smooth_steps.proofs.Parts.{weighed-none}
 use Rattle.smooth_lines.proofs.down.weighted_row.Statement.{statement}
 use Rattle.smooth_lines.proofs.down.weighted_row.Tie as tie
@@ -37,7 +37,7 @@ returns-2 c =
     let f = c .before .before .before .before in
     let a = f .before .before .before .args in
     c .before .before .ramp-row .ensures
-    ∙ (λ j. tab (length (a .row .now)) (λ i. sample (pos (sym (weighed-none (a .m) (a .e) (natAbs (entry (a .above .now) i)) (a .w) (a .v) (f .if2 .taken)) j))))
+    ∙ (λ j. tab (length (a .row .now)) (λ i. sample (pos (sym (weighed-none (a .m) (a .e) (natAbs (edgeAt (a .above .now) i)) (a .w) (a .v) (f .if2 .taken)) j))))
 
 same-length-3 : tie.Need-same-length-3
 same-length-3 c = search needs

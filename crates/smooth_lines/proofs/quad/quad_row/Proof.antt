@@ -9,15 +9,15 @@ use mir.Syntax.{w32}
 use mir.Val.{toZ, ofZ}
 use Rattle.lists.specs.Block.{sample}
 use Rattle.lists.proofs.Block.{four-stores}
-use Rattle.smooth_steps.specs.Parts.{entry, weighed}
+use Rattle.smooth_steps.specs.Parts.{edgeAt, weighed}
 use Rattle.smooth_steps.proofs.Steps.{entry-in, entry-abs}
 use Rattle.smooth_lines.proofs.quad.quad_row.Statement.{statement}
 use Rattle.smooth_lines.proofs.quad.quad_row.Tie as tie
 
 -- what the call gave is the sample that stands there
 stands : (s : tie.Start) (i : ℕ) → i < 4
-    → sample (pos (weighed (s .args .m) (s .args .e) (natAbs (toZ w32 (ofZ w32 (entry (s .args .above .now) i)))) (s .args .w) (s .args .v)))
-    ≡ sample (pos (weighed (s .args .m) (s .args .e) (natAbs (entry (s .args .above .now) i)) (s .args .w) (s .args .v)))
+    → sample (pos (weighed (s .args .m) (s .args .e) (natAbs (toZ w32 (ofZ w32 (edgeAt (s .args .above .now) i)))) (s .args .w) (s .args .v)))
+    ≡ sample (pos (weighed (s .args .m) (s .args .e) (natAbs (edgeAt (s .args .above .now) i)) (s .args .w) (s .args .v)))
 stands s i h = ap (λ t. sample (pos (weighed (s .args .m) (s .args .e) t (s .args .w) (s .args .v)))) (entry-abs (s .pre .1) i h)
 
 shared-slice-copy-out-entry-sample : tie.Need-shared-slice-copy-out-entry-sample

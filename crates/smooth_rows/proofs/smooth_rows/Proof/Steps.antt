@@ -8,12 +8,12 @@ use lib.Ieee.{Float}
 use Rattle.lists.specs.Fill.{filled}
 use Rattle.lists.specs.Block.{rows, sample}
 use Rattle.lists.proofs.RowLoop.{row-room}
-use Rattle.smooth_steps.specs.Parts.{entry, weighed, mean}
+use Rattle.smooth_steps.specs.Parts.{edgeAt, weighed, mean}
 use Rattle.smooth_rows.proofs.smooth_rows.Tie as tie
 
 -- down, and across
 abbrev pub down : ℕ → List ℤ → ℕ → List ℕ → ℕ → ℕ → ℕ
-down bs above e weights r c = weighed bs e (natAbs (entry above c)) (bs - 1 - r) (getD weights r 0)
+down bs above e weights r c = weighed bs e (natAbs (edgeAt above c)) (bs - 1 - r) (getD weights r 0)
 
 abbrev pub at : ℕ → List ℤ → ℕ → List ℤ → ℕ → List ℕ → ℕ → ℕ → Float
 at bs above e left f weights r c = sample (pos (mean (down bs above e weights r c) (down bs left f weights c r)))
@@ -31,7 +31,7 @@ module _ (c : tie.In-loop Inv-loop μ-loop) where
 
   -- the entry at the left of the row
   abbrev pub beside : ℕ
-  beside = natAbs (entry (s .args .left .now) (c .before .loop .r))
+  beside = natAbs (edgeAt (s .args .left .now) (c .before .loop .r))
 
   -- the row lies in the output
   pub room : c .before .loop .o + s .args .bs ≤ length (c .before .loop .out)

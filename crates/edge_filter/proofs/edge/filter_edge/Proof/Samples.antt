@@ -10,13 +10,13 @@ use Rattle.signed.specs.Range.{inside}
 use Rattle.signed.proofs.Bound.{back-abs}
 use Rattle.signed.proofs.Range.{inside-abs}
 use Rattle.edge_filter.specs.Filter.{padded, filtered}
-use Rattle.edge_filter.specs.Padded.{place}
+use Rattle.edge_filter.specs.Padded.{entryAt}
 use Rattle.edge_filter.proofs.Filtered.{filtered-sample}
 use Rattle.edge_filter.proofs.edge.filter_edge.Tie as tie
 
 module _ (s : tie.Start) where
   abbrev pub e : ℕ → ℤ
-  e = place (s .args .pad .now)
+  e = entryAt (s .args .pad .now)
 
   pub corner-back : toZ w32 (ofZ w32 (e 0)) ≡ e 0
   corner-back = back-abs w32 (e 0) (omega (arith, inside-abs 4095 (e 0) (s .pre .6 .samples 4 (omega arith))))
