@@ -41,7 +41,13 @@ enum latch_answer {
     LATCH_BAD_PLANE = 20,            /* width or height is not in 4..4096, or the plane's length is not width x height */
     LATCH_BAD_PLAN = 21,             /* a plan not of whole rows or of too many, or a list not of its length */
     LATCH_NOT_EACH_ONCE = 22,        /* the order does not hold each job's index once */
-    LATCH_PAIR_TURNED = 23           /* the order turns a clashing pair of jobs round */
+    LATCH_PAIR_TURNED = 23,          /* the order turns a clashing pair of jobs round */
+    LATCH_NOT_BLOCKS = 40,           /* bytes that are not whole blocks of 512, or more than 69 blocks */
+    LATCH_BAD_CHECK = 41,            /* a block's check is not the sum of its other words */
+    LATCH_OUT_OF_TURN = 42,          /* a block's index is not its place in the file */
+    LATCH_BAD_USED = 43,             /* a block's count of rows is wrong, or passes 1024 jobs */
+    LATCH_NOT_ZERO = 44,             /* a byte of a block that must be zero is not */
+    LATCH_NO_ROOM = 45               /* a list is too short for what is written or read */
 };
 
 /* A job is a row of sixteen 16-bit words. Words 5, 6, 13 and 14 are looked at only in mode 4. */
@@ -103,6 +109,11 @@ enum latch_flag {
 #define LATCH_ROW_WORDS 16
 #define LATCH_JOBS_MOST 1024
 #define LATCH_DIFFERENCES_UNIT 16
+
+/* A plan's file: how many bytes a block has, how many rows a block holds, and how many blocks a file has at most. */
+#define LATCH_BLOCK_BYTES 512
+#define LATCH_BLOCK_ROWS 15
+#define LATCH_BLOCKS_MOST 69
 
 /* How many entries latch_build_refs writes to each edge: 2B at the largest B. */
 #define LATCH_EDGE_ENTRIES 128
@@ -312,6 +323,42 @@ uint32_t latch_run_job(float *plane, size_t plane_len, size_t width, size_t heig
 uint32_t latch_run(float *plane, size_t plane_len, size_t width, size_t height, const uint16_t *plan, size_t plan_len,
                    const uint16_t *order, size_t order_len, const int16_t *differences, size_t differences_len,
                    uint16_t *answers, size_t answers_len);
+
+/* write_plan: a plan as a file of 512-byte blocks, as the radio link carries it.
+ *
+ * A block is, in this order: its index, from 0 on (4 bytes); how many of its rows are used, 1 to 15 (4 bytes); twenty zero bytes;
+ * fifteen rows of sixteen 16-bit words, of which those that are not used are zero; and the check (4 bytes): the sum modulo 2^32
+ * of the 127 words of four bytes before it. All words are little-endian. All blocks but the last hold fifteen rows, and a plan
+ * without a job has no blocks. The rows' words may be anything: no job is tested here.
+ *
+ * Writes 512 bytes a block to out, from its start on, and how many bytes that are to length[0].
+ * Lent: plan, exactly 16 words a job; out, at least 512 bytes for every fifteen jobs or part of fifteen; length, at least one entry.
+ *
+ * Refusals, in the order of checking:
+ *   21  plan_len is not a multiple of 16 or is above 16 x 1024
+ *   45  out_len is too short for the blocks, or length_len is 0
+ * A refused call changes nothing; a longer out or length keeps its tail; the slices must not overlap. */
+uint32_t latch_write_plan(const uint16_t *plan, size_t plan_len, uint8_t *out, size_t out_len,
+                          size_t *length, size_t length_len);
+
+/* read_plan: the plan of such a file. What is read is what was written: the bytes that are taken are exactly those that
+ * latch_write_plan writes, of the plan that they hold. A block with one word changed, and no other, is refused by 41.
+ *
+ * Writes 16 words a job to plan, from its start on, and how many jobs these are to rows[0].
+ * Lent: bytes, exactly the file; plan, at least 16 words a job of it; rows, at least one entry.
+ *
+ * Refusals, in the order of checking:
+ *   40  bytes_len is not a multiple of 512 or is above 512 x 69
+ *  then block by block
+ *   41  the check is not the sum of the 127 words before it
+ *   42  the index is not the block's place, from 0 on
+ *   43  the count of rows is 0 or above 15, or under 15 in a block that is not the last, or with it the jobs pass 1024
+ *   44  one of the twenty bytes, or a byte of a row that is not used, is not zero
+ *  and after all blocks
+ *   45  plan_len is under 16 words a job, or rows_len is 0
+ * A refused call changes nothing; a longer plan or rows keeps its tail; the slices must not overlap. */
+uint32_t latch_read_plan(const uint8_t *bytes, size_t bytes_len, uint16_t *plan, size_t plan_len,
+                         size_t *rows, size_t rows_len);
 
 #ifdef __cplusplus
 }

@@ -1,4 +1,6 @@
 // main.rs: times the proved library against the original Rust: the same inputs, one driver, ways interleaved, best of many rounds.
+#[path = "../../oracle/src/blocks/calls.rs"]
+mod block_calls;
 #[path = "../../oracle/src/calls.rs"]
 mod calls;
 #[path = "../../oracle/src/colour/mod.rs"]
@@ -11,6 +13,8 @@ mod draw;
 mod inputs;
 #[path = "../../oracle/src/original.rs"]
 mod original;
+#[path = "../../oracle/src/blocks/plain.rs"]
+mod plain;
 #[path = "../../oracle/src/random.rs"]
 mod random;
 #[path = "../../oracle/src/refusals.rs"]
@@ -32,6 +36,7 @@ mod job;
 mod plan;
 mod predict_block;
 mod predictors;
+mod radio;
 mod rows;
 mod runner;
 mod rust;
@@ -50,4 +55,5 @@ fn main() {
     plan::run(SEED);
     derive_params::run(SEED);
     predict_block::run(SEED);
+    radio::run(SEED);
 }

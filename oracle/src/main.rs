@@ -1,4 +1,5 @@
 // main.rs: holds the proved library against the original Rust. Two arguments: the scale, of which 1 is the usual run, and the project's root.
+mod blocks;
 mod calls;
 mod colour;
 mod derive_params;
@@ -38,7 +39,9 @@ fn main() {
     let windows = derive_params::compare(SEED, scale);
     let colour = predict_block::compare(SEED, scale);
     let solved = elimination::compare(SEED, scale);
+    let images = blocks::compare(SEED, scale);
     let plans = plans.join().expect("the comparison of plans ends");
     print!("oracle: {samples} predicted samples, {sets} edge sets, ");
-    println!("{windows} colour windows, {colour} colour samples, {solved} eliminations, {plans} plans, 0 differences");
+    print!("{windows} colour windows, {colour} colour samples, {solved} eliminations, ");
+    println!("{plans} plans, {images} block images, 0 differences");
 }

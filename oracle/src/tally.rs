@@ -2,13 +2,13 @@
 
 pub struct Tally {
     name: String,
-    answers: [u64; 32],
+    answers: [u64; 64],
     pub samples: u64,
 }
 
 impl Tally {
     pub fn new(name: &str) -> Tally {
-        Tally { name: name.to_string(), answers: [0; 32], samples: 0 }
+        Tally { name: name.to_string(), answers: [0; 64], samples: 0 }
     }
 
     pub fn add(&mut self, number: u32) {
@@ -25,8 +25,13 @@ impl Tally {
             due.iter().filter(|&&n| n != 0).map(|&n| format!("{n}: {}", self.answers[n])).collect();
         let samples = if self.samples > 0 { format!(", {} samples", self.samples) } else { String::new() };
         println!("{:<19} {} {unit}{samples}; refused {}", self.name, self.accepted(), refused.join(", "));
-        if let Some(n) = due.iter().find(|&&n| self.answers[n] == 0) {
-            println!("oracle: {} never answered {n}: the cases are too few", self.name);
+        self.often(due, 1);
+    }
+
+    /// Ends the run if one of the due numbers came fewer times than `least`.
+    pub fn often(&self, due: &[usize], least: u64) {
+        if let Some(n) = due.iter().find(|&&n| self.answers[n] < least) {
+            println!("oracle: {} answered {n} {} times, not {least}: the cases are too few", self.name, self.answers[*n]);
             std::process::exit(1);
         }
     }

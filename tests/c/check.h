@@ -86,6 +86,10 @@ void test_run(void);
 void test_plans(void);
 void test_clashes(void);
 void test_turned(void);
+void test_block_bytes(void);
+void test_write_plan(void);
+void test_read_plan(void);
+void test_block_turns(void);
 void test_stack(void);
 
 #endif

@@ -15,6 +15,10 @@ int main(void) {
     test_plans();
     test_clashes();
     test_turned();
+    test_block_bytes();
+    test_write_plan();
+    test_read_plan();
+    test_block_turns();
     test_stack();
     return checks_done();
 }

@@ -1,4 +1,5 @@
-/* stack.c: runs of the largest blocks in a thread whose whole stack is 128 KiB: a call that needs more ends the test. */
+/* stack.c: runs of the largest blocks, and the largest plan's file, in a thread whose whole stack is 128 KiB: a call that needs
+ * more ends the test. */
 #define _POSIX_C_SOURCE 200809L
 #include <pthread.h>
 
@@ -23,6 +24,8 @@ static const uint16_t kinds[JOBS][2] = {
 static float plane[SIDE * SIDE];
 static uint16_t plan[JOBS * LATCH_ROW_WORDS], order[JOBS], answers[JOBS];
 static int16_t differences[BLOCK * BLOCK];
+static uint16_t rows[LATCH_JOBS_MOST * LATCH_ROW_WORDS];
+static uint8_t file[LATCH_BLOCKS_MOST * LATCH_BLOCK_BYTES];
 
 /* Jobs that stand apart, so that they may be run backwards: that order is walked and each row compared. */
 static void make_plan(void) {
@@ -49,6 +52,9 @@ static void *in_thread(void *number) {
     for (int j = 0; j < JOBS; j++)
         *(uint32_t *)number |= latch_run_job(plane, COUNT(plane), SIDE, SIDE, plan + j * LATCH_ROW_WORDS, LATCH_ROW_WORDS,
                                              differences, COUNT(differences));
+    size_t count[1];
+    *(uint32_t *)number |= latch_write_plan(rows, COUNT(rows), file, COUNT(file), count, 1);
+    *(uint32_t *)number |= latch_read_plan(file, COUNT(file), rows, COUNT(rows), count, 1);
     return NULL;
 }
 

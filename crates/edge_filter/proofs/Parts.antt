@@ -9,18 +9,11 @@ use lib.ListN.{length, getD, take, drop, length-take}
 use lib.IntN.{ℤ, pos}
 use Rattle.signed.specs.Range.{inside, Edge}
 use Rattle.lists.specs.Fill.{tab, filled}
-use Rattle.lists.proofs.Fill.{rest-at, rest-each, rest-length, filled-part, length-filled}
+use Rattle.lists.proofs.Fill.{rest-at, rest-each, rest-length}
 use borrow.Rule.Slice.PartMut.{putMid}
 use Rattle.kernels.specs.Kernel.{five, taps5}
 use Rattle.edge_filter.specs.Filter.{padded}
 use Rattle.edge_filter.specs.Padded.{entryAt, Ends}
-
--- a part of a list that is as long as before comes back
-pub filled-next : (o e : ℕ) (f g : ℕ → ℤ) (xs ys row : List ℤ) → o ≤ e → e ≤ length xs → ys ≡ filled o f xs
-    → row ≡ tab (length (take (e - o) (drop o ys))) g → ((i : ℕ) → i < e - o → g i ≡ f (o + i))
-    → putMid o (e - o) ys row ≡ filled e f xs
-filled-next o e f g xs ys row le room h u same =
-    filled-part o e f g xs ys row le (rw (ap length h ∙ length-filled o f xs (omega arith)) room) h u same
 
 -- what a part of at most k entries asks of a list
 pub lend : (n k : ℕ) (xs ys : List ℤ) → k ≤ n → n ≤ length xs → Edge 4095 n xs

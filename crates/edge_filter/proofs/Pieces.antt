@@ -8,13 +8,13 @@ use lib.ListN.{length, getD, take, drop}
 use lib.IntN.{ℤ, pos}
 use borrow.Rule.Slice.PartMut.{putMid}
 use Rattle.lists.specs.Fill.{tab, filled}
-use Rattle.lists.proofs.Fill.{filled-none, filled-at, filled-all}
+use Rattle.lists.proofs.Fill.{filled-next, filled-none, filled-at, filled-all}
 use Rattle.kernels.specs.Kernel.{kernel, five}
 use Rattle.edge_filter.specs.Filter.{edge, padded, filtered}
 use Rattle.edge_filter.specs.Padded.{entryAt, Ends}
 use Rattle.edge_filter.proofs.Padded.{pad-corner, pad-in, pad-last}
 use Rattle.edge_filter.proofs.Filtered.{filtered-in, filtered-past, filtered-corner}
-use Rattle.edge_filter.proofs.Parts.{filled-next, rest, rest-five, rest-place}
+use Rattle.edge_filter.proofs.Parts.{rest, rest-five, rest-place}
 
 -- the part of a list from o on, up to e
 abbrev part : ℕ → ℕ → List ℤ → List ℤ

@@ -85,6 +85,13 @@ module _ {A : Type 0} where
   filled-part o e f g xs ys row le room h u same =
       filled-piece o (e - o) f g xs ys row (omega arith) h u same ∙ ap (λ (m : ℕ). filled m f xs) (omega arith)
 
+  -- the same, where the list is as long as it was
+  pub filled-next : (o e : ℕ) (f g : ℕ → A) (xs ys row : List A) → o ≤ e → e ≤ length xs → ys ≡ filled o f xs
+      → row ≡ tab (length (take (e - o) (drop o ys))) g → ((i : ℕ) → i < e - o → g i ≡ f (o + i))
+      → putMid o (e - o) ys row ≡ filled e f xs
+  filled-next o e f g xs ys row le room h u same =
+      filled-part o e f g xs ys row le (rw (ap length h ∙ length-filled o f xs (omega arith)) room) h u same
+
   pub filled-same : (n : ℕ) (f g : ℕ → A) (xs : List A) → ((i : ℕ) → i < n → f i ≡ g i) → filled n f xs ≡ filled n g xs
   filled-same n f g xs h = ap (λ (l : List A). l ++ drop n xs) (tab-same n f g h)
 

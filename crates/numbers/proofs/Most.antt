@@ -3,9 +3,9 @@ use Prim.Native.Nat.{_≤_}
 use native.Mathlib.Omega.{arith}
 use Rattle.numbers.specs.Answer.{answerNumber}
 use Rattle.numbers.specs.declared.answer.Answer.{Answer}
-use Rattle.numbers.specs.declared.answer.Answer.the-variants.{Done, BadSize, BadDepth, BadMode, OutsidePlane, NoNeighbour, BadBase, NoDifferences, BadSample, ShortList, BadColourDirection, BadReference, BadLines, BadColourSample, SumTooLarge, BadPlane, BadPlan, NotEachOnce, PairTurned}
+use Rattle.numbers.specs.declared.answer.Answer.the-variants.{Done, BadSize, BadDepth, BadMode, OutsidePlane, NoNeighbour, BadBase, NoDifferences, BadSample, ShortList, BadColourDirection, BadReference, BadLines, BadColourSample, SumTooLarge, BadPlane, BadPlan, NotEachOnce, PairTurned, NotBlocks, BadCheck, OutOfTurn, BadUsed, NotZero, NoRoom}
 
-pub answer-most : (a : Answer) → answerNumber a ≤ 23
+pub answer-most : (a : Answer) → answerNumber a ≤ 45
 answer-most Done = omega arith
 answer-most BadSize = omega arith
 answer-most BadDepth = omega arith
@@ -25,3 +25,9 @@ answer-most BadPlane = omega arith
 answer-most BadPlan = omega arith
 answer-most NotEachOnce = omega arith
 answer-most PairTurned = omega arith
+answer-most NotBlocks = omega arith
+answer-most BadCheck = omega arith
+answer-most OutOfTurn = omega arith
+answer-most BadUsed = omega arith
+answer-most NotZero = omega arith
+answer-most NoRoom = omega arith

@@ -6,7 +6,7 @@ use borrow.Author.Tests.{eqb-true, eq-eqb}
 use Rattle.numbers.specs.Look.{only}
 use Rattle.numbers.specs.Answer.{answerNumber, answers, answerOf, isDone}
 use Rattle.numbers.specs.declared.answer.Answer.{Answer}
-use Rattle.numbers.specs.declared.answer.Answer.the-variants.{Done, BadSize, BadDepth, BadMode, OutsidePlane, NoNeighbour, BadBase, NoDifferences, BadSample, ShortList, BadColourDirection, BadReference, BadLines, BadColourSample, SumTooLarge, BadPlane, BadPlan, NotEachOnce, PairTurned}
+use Rattle.numbers.specs.declared.answer.Answer.the-variants.{Done, BadSize, BadDepth, BadMode, OutsidePlane, NoNeighbour, BadBase, NoDifferences, BadSample, ShortList, BadColourDirection, BadReference, BadLines, BadColourSample, SumTooLarge, BadPlane, BadPlan, NotEachOnce, PairTurned, NotBlocks, BadCheck, OutOfTurn, BadUsed, NotZero, NoRoom}
 use Rattle.numbers.proofs.Look.{only-same, find-back}
 
 pub answer-there : (e : Answer) → answerOf (answerNumber e) ≡ only e
@@ -29,6 +29,12 @@ answer-there BadPlane = refl
 answer-there BadPlan = refl
 answer-there NotEachOnce = refl
 answer-there PairTurned = refl
+answer-there NotBlocks = refl
+answer-there BadCheck = refl
+answer-there OutOfTurn = refl
+answer-there BadUsed = refl
+answer-there NotZero = refl
+answer-there NoRoom = refl
 
 pub answer-back : (n : ℕ) (e : Answer) → answerOf n ≡ only e → answerNumber e ≡ n
 answer-back n e h = find-back answerNumber answers n e h

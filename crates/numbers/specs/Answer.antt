@@ -5,7 +5,7 @@ use Prim.Native.Nat.{ℕ}
 use lib.Dec.{eqb}
 use Rattle.numbers.specs.Look.{look, Maybe, only, nothing}
 use Rattle.numbers.specs.declared.answer.Answer.{Answer}
-use Rattle.numbers.specs.declared.answer.Answer.the-variants.{Done, BadSize, BadDepth, BadMode, OutsidePlane, NoNeighbour, BadBase, NoDifferences, BadSample, ShortList, BadColourDirection, BadReference, BadLines, BadColourSample, SumTooLarge, BadPlane, BadPlan, NotEachOnce, PairTurned}
+use Rattle.numbers.specs.declared.answer.Answer.the-variants.{Done, BadSize, BadDepth, BadMode, OutsidePlane, NoNeighbour, BadBase, NoDifferences, BadSample, ShortList, BadColourDirection, BadReference, BadLines, BadColourSample, SumTooLarge, BadPlane, BadPlan, NotEachOnce, PairTurned, NotBlocks, BadCheck, OutOfTurn, BadUsed, NotZero, NoRoom}
 
 -- case to number
 abbrev pub answerNumber : Answer → ℕ
@@ -28,11 +28,18 @@ answerNumber BadPlane = 20
 answerNumber BadPlan = 21
 answerNumber NotEachOnce = 22
 answerNumber PairTurned = 23
+answerNumber NotBlocks = 40
+answerNumber BadCheck = 41
+answerNumber OutOfTurn = 42
+answerNumber BadUsed = 43
+answerNumber NotZero = 44
+answerNumber NoRoom = 45
 
 abbrev pub answers : List Answer
 answers =
     Done ∷ BadSize ∷ BadDepth ∷ BadMode ∷ OutsidePlane ∷ NoNeighbour ∷ BadBase ∷ NoDifferences ∷ BadSample ∷ ShortList ∷
-    BadColourDirection ∷ BadReference ∷ BadLines ∷ BadColourSample ∷ SumTooLarge ∷ BadPlane ∷ BadPlan ∷ NotEachOnce ∷ PairTurned ∷ []
+    BadColourDirection ∷ BadReference ∷ BadLines ∷ BadColourSample ∷ SumTooLarge ∷ BadPlane ∷ BadPlan ∷ NotEachOnce ∷ PairTurned ∷
+    NotBlocks ∷ BadCheck ∷ OutOfTurn ∷ BadUsed ∷ NotZero ∷ NoRoom ∷ []
 
 -- number to case
 abbrev pub answerOf : ℕ → Maybe Answer

@@ -1,4 +1,5 @@
-// What a call answers: done, or a refusal (document 01, Refusal numbers, in order of checking).
+// What a call answers: done, or a refusal (document 01, Refusal numbers, in order of checking; 40 to 45:
+// document 02, request (iv)).
 ghost use mathlib.Core.Path.{_≡_};
 ghost use Rattle.numbers.specs.Answer.{answerNumber, isDone};
 
@@ -22,6 +23,12 @@ pub enum Answer {
     BadPlan,
     NotEachOnce,
     PairTurned,
+    NotBlocks,
+    BadCheck,
+    OutOfTurn,
+    BadUsed,
+    NotZero,
+    NoRoom,
 }
 
 impl Answer {
@@ -49,6 +56,12 @@ impl Answer {
             Answer::BadPlan => 21,
             Answer::NotEachOnce => 22,
             Answer::PairTurned => 23,
+            Answer::NotBlocks => 40,
+            Answer::BadCheck => 41,
+            Answer::OutOfTurn => 42,
+            Answer::BadUsed => 43,
+            Answer::NotZero => 44,
+            Answer::NoRoom => 45,
         }
     }
 

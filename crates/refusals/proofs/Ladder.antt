@@ -46,6 +46,16 @@ pub kept-append : (rules more : List Rule) → AllKept (rules ++ more) → AllKe
 kept-append [] more k = (tt, k)
 kept-append ((kept else refusal) ∷ rules) more k = let later = kept-append rules more (k .1) in ((k .0, later .0), later .1)
 
+and-both : (a b : Bool) → T a → T b → T (a && b)
+and-both true b p q = q
+and-both false b p q = p
+
+pub refuses-append : (rules more : List Rule) → T (refuses rules) → T (refuses more) → T (refuses (rules ++ more))
+refuses-append [] more p q = q
+refuses-append ((kept else refusal) ∷ rules) more p q =
+    let n = ltb 0 (answerNumber refusal) in
+    and-both n (refuses (rules ++ more)) (and-left n (refuses rules) p) (refuses-append rules more (and-right n (refuses rules) p) q)
+
 not-zero : (n : ℕ) → T (ltb 0 n) → eqb n 0 ≡ false
 not-zero n t = let h = ltb→lt 0 n t in ne-eqb n 0 (λ e. omega arith)
 

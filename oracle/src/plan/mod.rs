@@ -3,7 +3,7 @@ pub mod clashes;
 mod draw;
 mod every;
 mod faults;
-mod guarded;
+pub mod guarded;
 mod hold;
 pub mod job;
 mod kinds;

@@ -63,6 +63,24 @@ returns-18 c = ap answerNumber (sym (c .enum-told18 .given .1))
 returns-19 : tie.Need-returns-19
 returns-19 c = ap answerNumber (sym (c .enum-told19 .given .1))
 
+returns-20 : tie.Need-returns-20
+returns-20 c = ap answerNumber (sym (c .enum-told20 .given .1))
+
+returns-21 : tie.Need-returns-21
+returns-21 c = ap answerNumber (sym (c .enum-told21 .given .1))
+
+returns-22 : tie.Need-returns-22
+returns-22 c = ap answerNumber (sym (c .enum-told22 .given .1))
+
+returns-23 : tie.Need-returns-23
+returns-23 c = ap answerNumber (sym (c .enum-told23 .given .1))
+
+returns-24 : tie.Need-returns-24
+returns-24 c = ap answerNumber (sym (c .enum-told24 .given .1))
+
+returns-25 : tie.Need-returns-25
+returns-25 c = ap answerNumber (sym (c .enum-told25 .given .1))
+
 pub number-spec : {M : Type 1} → statement M
 number-spec =
     tie.close
@@ -86,6 +104,12 @@ number-spec =
     told.enum-told-17
     told.enum-told-18
     told.enum-told-19
+    told.enum-told-20
+    told.enum-told-21
+    told.enum-told-22
+    told.enum-told-23
+    told.enum-told-24
+    told.enum-told-25
     returns
     returns-2
     returns-3
@@ -104,4 +128,10 @@ number-spec =
     returns-16
     returns-17
     returns-18
-    returns-19)
+    returns-19
+    returns-20
+    returns-21
+    returns-22
+    returns-23
+    returns-24
+    returns-25)

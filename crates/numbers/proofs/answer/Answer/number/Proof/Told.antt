@@ -58,3 +58,21 @@ enum-told-18 c = search needs
 
 pub enum-told-19 : tie.Need-enum-told-19
 enum-told-19 c = search needs
+
+pub enum-told-20 : tie.Need-enum-told-20
+enum-told-20 c = search needs
+
+pub enum-told-21 : tie.Need-enum-told-21
+enum-told-21 c = search needs
+
+pub enum-told-22 : tie.Need-enum-told-22
+enum-told-22 c = search needs
+
+pub enum-told-23 : tie.Need-enum-told-23
+enum-told-23 c = search needs
+
+pub enum-told-24 : tie.Need-enum-told-24
+enum-told-24 c = search needs
+
+pub enum-told-25 : tie.Need-enum-told-25
+enum-told-25 c = search needs

@@ -1,0 +1,55 @@
+-- Reading is done exactly when the bytes are readable and there is room; and what was written is read as the plan that it was. Assumes nothing.
+use mathlib.Core.Path.{_≡_, refl, sym, _∙_, ap}
+use mathlib.Core.Bool.{true}
+use mathlib.Core.List.{List, [], _∷_, _++_}
+use Prim.Native.Nat.{ℕ, zero, suc, _*_, _<_, _≤_}
+use native.Mathlib.Omega.{arith}
+use lib.ListN.{length, getD, drop}
+use Rattle.numbers.specs.Answer.{isDone}
+use Rattle.numbers.specs.Limits.{mostJobs}
+use Rattle.numbers.specs.declared.answer.Answer.the-variants.{Done, NoRoom}
+use Rattle.refusals.specs.Ladder.{_else_, ladder}
+use Rattle.refusals.proofs.Ladder.{kept, segment-kept}
+use Rattle.lists.proofs.Fill.{length-tab}
+use Rattle.block_image.specs.Image.{rowsIn, imageSize, image}
+use Rattle.block_image.specs.Taken.{blocksIn, Readable, rowsOf, planOf}
+use Rattle.block_image.specs.Refusals.{blocksRules, hasRoom, readAnswer}
+use Rattle.block_image.specs.Promises.{Outputs, put, taken}
+use Rattle.block_image.specs.Fits.{Fits}
+use Rattle.block_image.specs.declared.format.Format.{Format}
+use Rattle.block_image.proofs.Alike.{block-done}
+use Rattle.block_image.proofs.Walk.{refuses-all, blocks-none, blocks-next}
+use Rattle.block_image.proofs.Forth.{accepted}
+use Rattle.block_image.proofs.ReadsBack.{rows-of, reads-back}
+
+module _ (F : Format) (bytes : List ℕ) (readable : Readable F bytes) where
+  blocks-done : (k : ℕ) → k ≤ blocksIn bytes → ladder (blocksRules F bytes k) ≡ Done
+  blocks-done zero l = blocks-none F bytes
+  blocks-done (suc k) l = blocks-next F bytes k (blocks-done k (omega arith)) ∙ block-done F bytes k (readable .each k (omega arith))
+
+  -- the other way is `read-done` (Readable)
+  pub read-accepted : (room slots : ℕ) → hasRoom (rowsOf F bytes * F .words) room slots ≡ true → readAnswer F bytes room slots ≡ Done
+  unfolding readAnswer isDone
+  read-accepted room slots h =
+      let all = blocksRules F bytes (blocksIn bytes) in
+      let last = hasRoom (rowsOf F bytes * F .words) room slots else NoRoom ∷ [] in
+      let done = blocks-done (blocksIn bytes) (omega arith) in
+      kept _ _ _ _ h (segment-kept all last (refuses-all F bytes (blocksIn bytes)) (ap isDone done) (kept _ _ _ _ (readable .whole) refl))
+
+-- what the calls leave is the image, or the plan, and the rest of the list as it was
+pub image-put : (F : Format) (plan : List ℕ) (before : Outputs) → put F plan before .written ≡ image F plan ++ drop (imageSize F plan) (before .written)
+unfolding image
+image-put F plan before = refl
+
+pub plan-taken : (F : Format) (bytes : List ℕ) (before : Outputs) → taken F bytes before .written ≡ planOf F bytes ++ drop (rowsOf F bytes * F .words) (before .written)
+unfolding planOf
+plan-taken F bytes before = refl
+
+-- "One plan has one byte image, which reads back as that plan."
+pub read-written : (F : Format) → Fits F → (plan : List ℕ) → ((i : ℕ) → getD plan i 0 < 65536) → length plan ≡ rowsIn F plan * F .words → rowsIn F plan ≤ mostJobs
+    → (room slots : ℕ) → hasRoom (length plan) room slots ≡ true → (readAnswer F (image F plan) room slots ≡ Done) × (planOf F (image F plan) ≡ plan)
+read-written F fit plan small whole few room slots h =
+    let n : rowsOf F (image F plan) * F .words ≡ length plan = ap (λ (x : ℕ). x * F .words) (rows-of F fit plan small whole few) ∙ sym whole in (
+      read-accepted F (image F plan) (accepted F fit plan small whole few) room slots (ap (λ (x : ℕ). hasRoom x room slots) n ∙ h),
+      reads-back F fit plan small whole few,
+    )

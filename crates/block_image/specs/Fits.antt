@@ -1,0 +1,12 @@
+-- What a format's numbers must be: the rows fill a block, and the blocks hold every plan. That request (iv)'s are so is shown in proofs/Fits.
+use mathlib.Core.Path.{_≡_}
+use Prim.Native.Nat.{_+_, _*_, _<_, _≤_}
+use Rattle.numbers.specs.Limits.{mostJobs}
+use Rattle.block_image.specs.declared.format.Format.{Format}
+
+pub record Fits (F : Format) : Type 0 where
+  pub fills : 8 + F .zeros + 2 * (F .rows * F .words) ≡ 508
+  pub some-rows : 0 < F .rows
+  pub some-words : 0 < F .words
+  pub reach : mostJobs ≤ F .most * F .rows
+  pub few : F .most ≤ 1024

@@ -1,0 +1,2 @@
+-- Laws of the words in a file.
+pub mod Words

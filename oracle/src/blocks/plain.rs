@@ -1,0 +1,81 @@
+// plain.rs: a plan's file of 512-byte blocks, written and read by plain Rust from request (iv) of document 02 alone. The answers are its numbers.
+const BLOCK: usize = 512;
+const HEAD: usize = 28;
+const ROWS: usize = 15;
+const WORDS: usize = 16;
+const JOBS: usize = 1024;
+
+/// A little-endian word of four bytes.
+fn word(bytes: &[u8]) -> u32 {
+    u32::from_le_bytes(bytes.try_into().expect("four bytes"))
+}
+
+/// The sum of the 127 words before the check.
+pub fn check(block: &[u8]) -> u32 {
+    block[..508].chunks_exact(4).fold(0, |sum, w| sum.wrapping_add(word(w)))
+}
+
+/// The plan's image at the start of `out`: how many bytes it has, or the refusal.
+pub fn write(plan: &[u16], out: &mut [u8]) -> Result<usize, u32> {
+    if plan.len() % WORDS != 0 || plan.len() / WORDS > JOBS {
+        return Err(21);
+    }
+    let size = (plan.len() / WORDS).div_ceil(ROWS) * BLOCK;
+    if out.len() < size {
+        return Err(45);
+    }
+    for (k, (block, rows)) in out.chunks_exact_mut(BLOCK).zip(plan.chunks(ROWS * WORDS)).enumerate() {
+        block[..4].copy_from_slice(&(k as u32).to_le_bytes());
+        block[4..8].copy_from_slice(&((rows.len() / WORDS) as u32).to_le_bytes());
+        block[8..508].fill(0);
+        for (to, w) in block[HEAD..508].chunks_exact_mut(2).zip(rows) {
+            to.copy_from_slice(&w.to_le_bytes());
+        }
+        let sum = check(block);
+        block[508..].copy_from_slice(&sum.to_le_bytes());
+    }
+    Ok(size)
+}
+
+/// The first of 41 to 44 that holds for block k of n.
+fn block_fault(block: &[u8], k: usize, n: usize) -> Option<u32> {
+    let used = word(&block[4..8]) as usize;
+    if word(&block[508..]) != check(block) {
+        return Some(41);
+    }
+    if word(&block[..4]) as usize != k {
+        return Some(42);
+    }
+    if used < 1 || used > ROWS || (k + 1 < n && used < ROWS) || k * ROWS + used > JOBS {
+        return Some(43);
+    }
+    let unused = &block[HEAD + used * 2 * WORDS..508];
+    if block[8..HEAD].iter().chain(unused).any(|b| *b != 0) {
+        return Some(44);
+    }
+    None
+}
+
+/// The rows of a file at the start of `plan`: how many there are, or the refusal.
+pub fn read(bytes: &[u8], plan: &mut [u16]) -> Result<usize, u32> {
+    let n = bytes.len() / BLOCK;
+    if bytes.len() % BLOCK != 0 || n > 69 {
+        return Err(40);
+    }
+    let mut rows = 0;
+    for (k, block) in bytes.chunks_exact(BLOCK).enumerate() {
+        if let Some(fault) = block_fault(block, k, n) {
+            return Err(fault);
+        }
+        rows += word(&block[4..8]) as usize;
+    }
+    if plan.len() < rows * WORDS {
+        return Err(45);
+    }
+    for (to, block) in plan[..rows * WORDS].chunks_mut(ROWS * WORDS).zip(bytes.chunks_exact(BLOCK)) {
+        for (w, two) in to.iter_mut().zip(block[HEAD..508].chunks_exact(2)) {
+            *w = u16::from_le_bytes([two[0], two[1]]);
+        }
+    }
+    Ok(rows)
+}
