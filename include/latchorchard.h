@@ -342,7 +342,8 @@ uint32_t latch_write_plan(const uint16_t *plan, size_t plan_len, uint8_t *out, s
                           size_t *length, size_t length_len);
 
 /* read_plan: the plan of such a file. What is read is what was written: the bytes that are taken are exactly those that
- * latch_write_plan writes, of the plan that they hold. A block with one word changed, and no other, is refused by 41.
+ * latch_write_plan writes, of the plan that they hold. A file with one word changed, and no other, is refused by 41. What the format
+ * cannot tell: a file that has lost blocks at its end is a shorter plan's file, and is taken.
  *
  * Writes 16 words a job to plan, from its start on, and how many jobs these are to rows[0].
  * Lent: bytes, exactly the file; plan, at least 16 words a job of it; rows, at least one entry.
