@@ -1,15 +1,14 @@
 -- Blocks of the same bytes have the same answer, and an accepted block's answer is done. Assumes nothing.
-use mathlib.Core.Path.{_≡_, refl, sym, _∙_, ap}
+use mathlib.Core.Path.{_≡_, refl, _∙_, ap}
 use mathlib.Core.Bool.{Bool, true, cond, _&&_}
 use mathlib.Core.List.{List}
-use mathlib.Core.Logic.{⊎-elim}
 use Prim.Native.Nat.{ℕ, zero, suc, _+_, _-_, _*_, _%_, _^_, _<_, _≤_}
 use native.Mathlib.Omega.{arith}
 use lib.Dec.{eqb}
 use Rattle.signed.proofs.Range.{and-both}
 use Rattle.numbers.specs.declared.answer.Answer.{Answer}
 use Rattle.numbers.specs.declared.answer.Answer.the-variants.{Done, BadCheck, OutOfTurn, BadUsed, NotZero}
-use Rattle.block_image.specs.Bytes.{word32, checkOf}
+use Rattle.block_image.specs.Bytes.{word32}
 use Rattle.block_image.specs.Rules.{blockBytes, usedAt, isCheck, isIndex, isUsed, allZero, isZero}
 use Rattle.block_image.specs.Taken.{blocksIn, isBlock}
 use Rattle.block_image.specs.Refusals.{blockAnswer}

@@ -1,31 +1,32 @@
 -- What the check catches in a file: an accepted file with one word changed, or one byte, is refused by 41; and two files that are both accepted
 -- hold two plans. Assumes nothing.
 use mathlib.Core.Path.{_≡_, refl, sym, _∙_, ap}
-use mathlib.Core.Bool.{true, false}
-use mathlib.Core.List.{List, [], _∷_}
+use mathlib.Core.Bool.{false}
+use mathlib.Core.List.{List}
 use mathlib.Core.Logic.{_⊎_, inl, inr, ⊎-elim}
-use Prim.Native.Nat.{ℕ, zero, suc, _+_, _-_, _*_, _/_, _%_, _<_, _≤_}
+use Prim.Native.Nat.{ℕ, zero, suc, _+_, _*_, _/_, _%_, _<_, _≤_}
 use native.Mathlib.Nat.{le-of-lt}
 use native.Mathlib.Omega.{arith}
 use lib.Dec.{eqb}
 use lib.ListN.{length, getD}
 use Rattle.signed.proofs.Naturals.{either}
 use Rattle.numbers.specs.Answer.{isDone}
-use Rattle.numbers.specs.declared.answer.Answer.the-variants.{Done, BadCheck, NoRoom}
-use Rattle.refusals.specs.Ladder.{_else_, ladder}
-use Rattle.refusals.proofs.Ladder.{kept, broken, segment-broken}
+use Rattle.numbers.specs.declared.answer.Answer.the-variants.{Done, BadCheck}
+use Rattle.refusals.specs.Ladder.{ladder}
+use Rattle.refusals.proofs.Ladder.{broken}
 use Rattle.block_image.specs.Bytes.{word32, byteOf}
 use Rattle.block_image.specs.Rules.{blockBytes, isWhole, isCheck}
-use Rattle.block_image.specs.Taken.{blocksIn, Readable, rowsOf, planOf}
+use Rattle.block_image.specs.Taken.{blocksIn, Readable, planOf}
 use Rattle.block_image.specs.Image.{image}
-use Rattle.block_image.specs.Refusals.{blockAnswer, blocksRules, hasRoom, readAnswer}
+use Rattle.block_image.specs.Refusals.{blockAnswer, blocksRules, readAnswer}
 use Rattle.block_image.specs.Fits.{Fits}
 use Rattle.block_image.specs.declared.format.Format.{Format}
 use Rattle.block_image.proofs.Digits.{bytes-of}
 use Rattle.block_image.proofs.OneWord.{one-word-caught}
 use Rattle.block_image.proofs.Block.{shown}
 use Rattle.block_image.proofs.Alike.{block-done, answer-same}
-use Rattle.block_image.proofs.Walk.{refuses-all, blocks-none, blocks-next, blocks-stay}
+use Rattle.block_image.proofs.Walk.{blocks-none, blocks-next, blocks-stay}
+use Rattle.block_image.proofs.Steps.{block-refused}
 use Rattle.block_image.proofs.Back.{one-image}
 
 module _ (F : Format) (fit : Fits F) (bytes bytes′ : List ℕ) (small : (i : ℕ) → getD bytes i 0 < 256) (small′ : (i : ℕ) → getD bytes′ i 0 < 256)
@@ -49,15 +50,13 @@ module _ (F : Format) (fit : Fits F) (bytes bytes′ : List ℕ) (small : (i : �
   -- a file whose block k is the first to have a wrong check
   check-refused : (k : ℕ) → k < n → ((i : ℕ) → i < 512 * k → getD bytes i 0 ≡ getD bytes′ i 0) → isCheck (blockBytes bytes′ k) ≡ false
       → (room slots : ℕ) → readAnswer F bytes′ room slots ≡ BadCheck
-  unfolding readAnswer blockAnswer isDone
+  unfolding blockAnswer isDone
   check-refused k l same wrong room slots =
       let here : ladder (blocksRules F bytes′ (suc k)) ≡ BadCheck =
       blocks-next F bytes′ k (before k (le-of-lt l) same) ∙ sym (broken _ _ _ _ wrong refl) in
       let all : ladder (blocksRules F bytes′ (blocksIn bytes′)) ≡ BadCheck =
       blocks-stay F bytes′ (suc k) (blocksIn bytes′) (omega (arith, n-is)) (ap isDone here) ∙ here in
-      let whole : isWhole F (length bytes′) ≡ true = ap (isWhole F) (sym size) ∙ accepted .whole in
-      let last = hasRoom (rowsOf F bytes′ * F .words) room slots else NoRoom ∷ [] in
-      sym (segment-broken (blocksRules F bytes′ (blocksIn bytes′)) last (refuses-all F bytes′ (blocksIn bytes′)) (ap isDone all) (kept _ _ _ _ whole refl)) ∙ all
+      sym (block-refused F bytes′ room slots (ap (isWhole F) (sym size) ∙ accepted .whole) (ap isDone all)) ∙ all
 
   -- word j of block k is changed, and nothing else
   pub one-word-refused : (k j : ℕ) → k < n → j < 128 → (word32 (blockBytes bytes k) (4 * j) ≡ word32 (blockBytes bytes′ k) (4 * j) → ⊥)

@@ -1,16 +1,13 @@
 -- Reading is done exactly when the bytes are readable and there is room; and what was written is read as the plan that it was. Assumes nothing.
 use mathlib.Core.Path.{_≡_, refl, sym, _∙_, ap}
 use mathlib.Core.Bool.{true}
-use mathlib.Core.List.{List, [], _∷_, _++_}
+use mathlib.Core.List.{List, _++_}
 use Prim.Native.Nat.{ℕ, zero, suc, _*_, _<_, _≤_}
 use native.Mathlib.Omega.{arith}
 use lib.ListN.{length, getD, drop}
-use Rattle.numbers.specs.Answer.{isDone}
 use Rattle.numbers.specs.Limits.{mostJobs}
-use Rattle.numbers.specs.declared.answer.Answer.the-variants.{Done, NoRoom}
-use Rattle.refusals.specs.Ladder.{_else_, ladder}
-use Rattle.refusals.proofs.Ladder.{kept, segment-kept}
-use Rattle.lists.proofs.Fill.{length-tab}
+use Rattle.numbers.specs.declared.answer.Answer.the-variants.{Done}
+use Rattle.refusals.specs.Ladder.{ladder}
 use Rattle.block_image.specs.Image.{rowsIn, imageSize, image}
 use Rattle.block_image.specs.Taken.{blocksIn, Readable, rowsOf, planOf}
 use Rattle.block_image.specs.Refusals.{blocksRules, hasRoom, readAnswer}
@@ -18,7 +15,8 @@ use Rattle.block_image.specs.Promises.{Outputs, put, taken}
 use Rattle.block_image.specs.Fits.{Fits}
 use Rattle.block_image.specs.declared.format.Format.{Format}
 use Rattle.block_image.proofs.Alike.{block-done}
-use Rattle.block_image.proofs.Walk.{refuses-all, blocks-none, blocks-next}
+use Rattle.block_image.proofs.Walk.{blocks-none, blocks-next}
+use Rattle.block_image.proofs.Steps.{all-passed}
 use Rattle.block_image.proofs.Forth.{accepted}
 use Rattle.block_image.proofs.ReadsBack.{rows-of, reads-back}
 
@@ -29,12 +27,7 @@ module _ (F : Format) (bytes : List ℕ) (readable : Readable F bytes) where
 
   -- the other way is `read-done` (Readable)
   pub read-accepted : (room slots : ℕ) → hasRoom (rowsOf F bytes * F .words) room slots ≡ true → readAnswer F bytes room slots ≡ Done
-  unfolding readAnswer isDone
-  read-accepted room slots h =
-      let all = blocksRules F bytes (blocksIn bytes) in
-      let last = hasRoom (rowsOf F bytes * F .words) room slots else NoRoom ∷ [] in
-      let done = blocks-done (blocksIn bytes) (omega arith) in
-      kept _ _ _ _ h (segment-kept all last (refuses-all F bytes (blocksIn bytes)) (ap isDone done) (kept _ _ _ _ (readable .whole) refl))
+  read-accepted room slots = all-passed F bytes room slots (readable .whole) (blocks-done (blocksIn bytes) (omega arith))
 
 -- what the calls leave is the image, or the plan, and the rest of the list as it was
 pub image-put : (F : Format) (plan : List ℕ) (before : Outputs) → put F plan before .written ≡ image F plan ++ drop (imageSize F plan) (before .written)

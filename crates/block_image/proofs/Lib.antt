@@ -9,6 +9,7 @@ pub mod Block
 pub mod Alike
 pub mod RowsOf
 pub mod Walk
+pub mod Steps
 pub mod Readable
 -- accepted bytes are the image of the plan that is read:
 pub mod Held

@@ -6,7 +6,7 @@ use Prim.Native.Nat.{ℕ, _*_, _%_, _<_}
 use native.Mathlib.Nat.{eq-or-lt-of-le, le-of-suc-le-suc}
 use native.Mathlib.Omega.{arith}
 use borrow.Author.Tests.{eqb-true, ne-eqb}
-use Rattle.block_image.specs.Bytes.{word32, sumTo, checkOf}
+use Rattle.block_image.specs.Bytes.{word32, checkOf}
 use Rattle.block_image.specs.Rules.{isCheck}
 use Rattle.block_image.proofs.Digits.{word-most}
 use Rattle.block_image.proofs.Sum.{sum-words, sum-one}

@@ -1,5 +1,5 @@
 -- What the tests of a reading have shown: every block is as it must be, and what is taken is there. Assumes nothing.
-use mathlib.Core.Path.{_≡_, refl, sym, _∙_, ap, subst}
+use mathlib.Core.Path.{_≡_, refl, sym, ap, subst}
 use mathlib.Core.Bool.{true, _&&_}
 use mathlib.Core.List.{List, [], _∷_}
 use mathlib.Core.Logic.{⊎-elim}
@@ -15,9 +15,8 @@ use Rattle.numbers.specs.Limits.{mostJobs}
 use Rattle.numbers.specs.declared.answer.Answer.the-variants.{Done, NoRoom}
 use Rattle.refusals.specs.Ladder.{Rule, _else_, ladder}
 use Rattle.refusals.proofs.Ladder.{AllKept, all-kept, kept-append, refuses-append}
-use Rattle.block_image.specs.Rules.{blockBytes, usedAt, isWhole}
-use Rattle.block_image.specs.Taken.{blocksIn, isBlock, Readable, rowsOf}
-use Rattle.block_image.specs.Fits.{Fits}
+use Rattle.block_image.specs.Rules.{blockBytes, isWhole}
+use Rattle.block_image.specs.Taken.{blocksIn, Readable, rowsOf}
 use Rattle.block_image.specs.declared.format.Format.{Format}
 use Rattle.block_image.proofs.Block.{shown}
 use Rattle.block_image.proofs.RowsOf.{rows-none, rows-some}

@@ -1,22 +1,20 @@
 -- What stands in the blocks of a plan's image: its index, its count, zeros, the plan's words and the check. Assumes nothing.
 use mathlib.Core.Path.{_≡_, sym, _∙_, ap}
-use mathlib.Core.Bool.{true, cond}
+use mathlib.Core.Bool.{true}
 use mathlib.Core.List.{List}
-use mathlib.Core.Logic.{⊎-elim}
-use Prim.Native.Nat.{ℕ, zero, suc, _+_, _-_, _*_, _/_, _%_, _^_, _<_, _≤_}
+use Prim.Native.Nat.{ℕ, _+_, _-_, _*_, _/_, _%_, _^_, _<_}
 use native.Mathlib.Nat.{mod-lt}
 use native.Mathlib.Omega.{arith}
-use lib.Dec.{eqb, ltb}
-use lib.ListN.{length, getD}
+use lib.ListN.{length}
 use borrow.Author.Tests.{lt-ltb, le-ltb, eq-eqb}
 use Rattle.lists.proofs.Fill.{tab-at, length-tab}
-use Rattle.block_image.specs.Bytes.{word16, word32, byteOf, checkOf}
+use Rattle.block_image.specs.Bytes.{word32, checkOf}
 use Rattle.block_image.specs.Image.{rowsIn, blocksFor, usedIn, rowByte, bodyByte, blockByte, imageByte, imageSize, image}
 use Rattle.block_image.specs.Rules.{blockBytes, isCheck}
 use Rattle.block_image.specs.Taken.{blocksIn}
 use Rattle.block_image.specs.Fits.{Fits}
 use Rattle.block_image.specs.declared.format.Format.{Format}
-use Rattle.block_image.proofs.Digits.{word-is, both-is}
+use Rattle.block_image.proofs.Digits.{word-is}
 use Rattle.block_image.proofs.Sum.{sum-same}
 
 pub image-length : (F : Format) (plan : List ℕ) → length (image F plan) ≡ imageSize F plan

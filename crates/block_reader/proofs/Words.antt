@@ -1,15 +1,15 @@
 -- The words of a file block by block. Assumes nothing.
-use mathlib.Core.Path.{_≡_, sym}
+use mathlib.Core.Path.{_≡_}
 use mathlib.Core.List.{List}
 use mathlib.Core.Logic.{⊎-elim}
-use Prim.Native.Nat.{ℕ, _+_, _*_, _/_, _%_, _≤_, _<_}
+use Prim.Native.Nat.{ℕ, _+_, _*_, _/_, _≤_, _<_}
 use native.Mathlib.Nat.{le-of-mul-le-mul-right, mul-le-mul-right, div-mul-le-self, div-add-mod', mod-lt}
 use native.Mathlib.Omega.{arith}
 use lib.Arith.{digits-div, digits-mod}
 use lib.ListN.{getD}
 use Rattle.signed.proofs.Naturals.{either}
 use Rattle.block_image.specs.Bytes.{word16}
-use Rattle.block_image.specs.Rules.{bytesFrom, blockBytes}
+use Rattle.block_image.specs.Rules.{bytesFrom}
 use Rattle.block_image.specs.Taken.{wordIn}
 
 -- word i of block k

@@ -6,7 +6,7 @@ use block_words::check::check_of;
 use numbers::answer::Answer;
 ghost use mathlib.Core.Path.{_≡_};
 ghost use mathlib.Core.Bool.{true};
-ghost use Prim.Native.Nat.{_+_, _%_, _≤_};
+ghost use Prim.Native.Nat.{_+_, _≤_};
 ghost use lib.ListN.{length};
 ghost use Rattle.numbers.specs.Answer.{isDone};
 ghost use Rattle.refusals.specs.Ladder.{ladder};

@@ -7,7 +7,6 @@ use block_words::room::has_room;
 use numbers::answer::Answer;
 ghost use mathlib.Core.Path.{_≡_};
 ghost use mathlib.Core.Bool.{true};
-ghost use lib.ListN.{length};
 ghost use Rattle.numbers.specs.Answer.{isDone};
 ghost use Rattle.block_image.specs.Rules.{isWhole};
 ghost use Rattle.block_image.specs.Taken.{rowsOf};

@@ -1,5 +1,5 @@
 -- A block as the code makes it is the image's. Assumes nothing.
-use mathlib.Core.Path.{_≡_, refl, sym, _∙_, ap}
+use mathlib.Core.Path.{_≡_, sym, _∙_, ap}
 use mathlib.Core.List.{List}
 use mathlib.Core.Logic.{⊎-elim}
 use Prim.Native.Nat.{ℕ, _+_, _-_, _*_, _/_, _%_, _^_, _<_, _≤_}
@@ -12,11 +12,11 @@ use lib.Seq.{getD-take, getD-drop}
 use borrow.Author.Tests.{lt-ltb, le-ltb}
 use Rattle.signed.proofs.Naturals.{either}
 use Rattle.block_image.specs.Bytes.{byteOf, checkOf}
-use Rattle.block_image.specs.Image.{rowsIn, blocksFor, usedIn, rowByte, bodyByte, blockByte}
+use Rattle.block_image.specs.Image.{blocksFor, usedIn, bodyByte, blockByte}
 use Rattle.block_image.specs.Fits.{Fits}
 use Rattle.block_image.specs.declared.format.Format.{Format}
 use Rattle.block_image.proofs.Sum.{sum-same}
-use Rattle.block_image.proofs.Counted.{begins, last-or-full, used-most, within}
+use Rattle.block_image.proofs.Counted.{begins, last-or-full, within}
 use Rattle.block_writer.specs.Made.{madeBody, madeByte, WholeRows}
 
 module _ (F : Format) (fit : Fits F) (plan : List ℕ) (n : ℕ) (rows : WholeRows F plan n) (k : ℕ) (l : k < blocksFor F n) where

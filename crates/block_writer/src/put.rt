@@ -1,6 +1,6 @@
 // Parts of a block, filled.
 ghost use mathlib.Core.Path.{_≡_};
-ghost use Prim.Native.Nat.{_+_, _*_, _/_, _%_, _≤_};
+ghost use Prim.Native.Nat.{_+_, _*_, _/_, _%_};
 ghost use lib.ListN.{length, getD};
 ghost use Rattle.lists.specs.Fill.{tab};
 ghost use Rattle.block_image.specs.Bytes.{byteOf};

@@ -8,7 +8,7 @@ ghost use mathlib.Core.Path.{_≡_};
 ghost use Prim.Native.Nat.{_+_, _*_, _≤_, _<_};
 ghost use lib.ListN.{length};
 ghost use Rattle.lists.specs.Fill.{tab, filled};
-ghost use Rattle.block_image.specs.Image.{rowsIn, blocksFor, blockByte, imageByte, imageSize};
+ghost use Rattle.block_image.specs.Image.{blocksFor, blockByte, imageByte};
 ghost use Rattle.block_image.specs.Fits.{Fits};
 ghost use Rattle.block_image.specs.Refusals.{isRows, writeAnswer};
 ghost use Rattle.block_image.specs.Promises.{outputs, WritePlan};

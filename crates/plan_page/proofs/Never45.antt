@@ -1,7 +1,7 @@
 -- A file is accepted, or refused by one of 40 to 44: where there is room for every plan, 45 cannot arise. Assumes nothing.
 use mathlib.Core.Path.{_≡_, refl, sym, ap, subst}
 use mathlib.Core.Bool.{Bool, true, false, cond, _&&_}
-use mathlib.Core.List.{List, [], _∷_, _++_}
+use mathlib.Core.List.{List, [], _∷_}
 use mathlib.Core.Logic.{_⊎_, inl, inr}
 use Prim.Native.Nat.{ℕ, zero, suc, _+_, _*_, _≤_}
 use native.Mathlib.Nat.{mul-le-mul-right}
@@ -12,15 +12,16 @@ use borrow.Author.Tests.{le-leb}
 use Rattle.numbers.specs.Limits.{mostJobs}
 use Rattle.numbers.specs.Answer.{answerNumber, isDone}
 use Rattle.numbers.specs.declared.answer.Answer.{Answer}
-use Rattle.numbers.specs.declared.answer.Answer.the-variants.{Done, NotBlocks, BadCheck, OutOfTurn, BadUsed, NotZero, NoRoom}
+use Rattle.numbers.specs.declared.answer.Answer.the-variants.{Done, BadCheck, OutOfTurn, BadUsed, NotZero, NoRoom}
 use Rattle.numbers.proofs.Named.{done-is}
 use Rattle.refusals.specs.Ladder.{Rule, _else_, ladder}
 use Rattle.refusals.proofs.Ladder.{ladder-append}
 use Rattle.block_image.specs.Rules.{blockBytes, isWhole}
 use Rattle.block_image.specs.Taken.{blocksIn, Readable, rowsOf}
-use Rattle.block_image.specs.Refusals.{blockRules, blocksRules, hasRoom, readAnswer}
+use Rattle.block_image.specs.Refusals.{blockRules, blocksRules, hasRoom}
 use Rattle.block_image.specs.declared.format.Format.{Format}
 use Rattle.block_image.proofs.Walk.{refuses-all}
+use Rattle.block_image.proofs.Steps.{not-blocks, block-refused, all-passed}
 use Rattle.block_image.proofs.Readable.{accepted-of, rows-few}
 use Rattle.plan_page.specs.Page.{answerOfFile}
 
@@ -62,33 +63,19 @@ module _ (F : Format) (bytes : List ℕ) where
       subst OfFile (sym (ladder-append (blocksRules F bytes n) rules (refuses-all F bytes n)))
       (pick (isDone (ladder (blocksRules F bytes n))) (of-block _ n (blockBytes bytes n)) (of-blocks n))
 
-  abbrev rules : List Rule
-  rules = blocksRules F bytes (blocksIn bytes)
-
-  abbrev last : List Rule
-  last = hasRoom (rowsOf F bytes * F .words) (mostJobs * F .words) 1 else NoRoom ∷ []
-
   -- a file that is accepted holds no more than every plan does
   pub room-for-all : Readable F bytes → hasRoom (rowsOf F bytes * F .words) (mostJobs * F .words) 1 ≡ true
   unfolding hasRoom
   room-for-all good = ap (λ b. b && true) (le-leb (rowsOf F bytes * F .words) (mostJobs * F .words) (mul-le-mul-right (F .words) (rows-few F bytes good)))
 
-  has-room : isWhole F (length bytes) ≡ true → ladder rules ≡ Done → ladder last ≡ Done
-  has-room w e = ap (λ b. cond b Done NoRoom) (room-for-all (accepted-of F bytes w e))
-
-  of-rules : isWhole F (length bytes) ≡ true → OfFile (ladder (rules ++ last))
-  of-rules w =
-      subst OfFile (sym (ladder-append rules last (refuses-all F bytes (blocksIn bytes))))
-      (split (isDone (ladder rules))
-      (λ e. subst OfFile (sym (ap (λ b. cond b (ladder last) (ladder rules)) e)) (inl (has-room w (done-is (ladder rules) e))))
-      (λ e. subst OfFile (sym (ap (λ b. cond b (ladder last) (ladder rules)) e)) (of-blocks (blocksIn bytes))))
+  of-whole : isWhole F (length bytes) ≡ true → OfFile (answerOfFile F bytes)
+  of-whole w =
+      split (isDone (ladder (blocksRules F bytes (blocksIn bytes))))
+      (λ e. let d = done-is _ e in inl (all-passed F bytes _ _ w d (room-for-all (accepted-of F bytes w d))))
+      (λ e. subst OfFile (block-refused F bytes _ _ w e) (of-blocks (blocksIn bytes)))
 
   pub of-file : OfFile (answerOfFile F bytes)
-  unfolding readAnswer
-  of-file =
-      split (isWhole F (length bytes))
-      (λ w. subst OfFile (sym (ap (λ b. cond b (ladder (rules ++ last)) NotBlocks) w)) (of-rules w))
-      (λ w. subst OfFile (sym (ap (λ b. cond b (ladder (rules ++ last)) NotBlocks) w)) (inr (omega arith, omega arith)))
+  of-file = split (isWhole F (length bytes)) of-whole (λ w. subst OfFile (not-blocks F bytes _ _ w) (inr (omega arith, omega arith)))
 
   pub never-45 : answerOfFile F bytes ≡ NoRoom → ⊥
   never-45 e = no (subst OfFile e of-file)

@@ -1,15 +1,14 @@
 -- `block_answer` meets its contract: each test is the ladder's, in its order. Assumes nothing.
 use borrow.Author.Needs.{needs}
-use borrow.Author.Tests.{not-true, not-false, eq-eqb, ne-eqb, leb-true}
+use borrow.Author.Tests.{not-true, not-false, eq-eqb, ne-eqb}
 use mathlib.Core.Path.{_≡_, refl, sym, _∙_, ap}
 use mathlib.Core.Bool.{true}
 use mathlib.Core.List.{List}
-use Prim.Native.Nat.{ℕ, _≤_}
-use native.Mathlib.Omega.{arith}
+use Prim.Native.Nat.{ℕ}
 use lib.ListN.{drop}
 use Rattle.refusals.specs.Ladder.{Rule, ladder}
 use Rattle.refusals.proofs.Ladder.{kept, broken}
-use Rattle.block_image.specs.Rules.{bytesFrom, usedAt, isCheck, isUsed, isZero}
+use Rattle.block_image.specs.Rules.{bytesFrom, isCheck, isUsed, isZero}
 use Rattle.block_image.proofs.Fits.{rows-most}
 use Rattle.block_image.proofs.Used.{used-within}
 use Rattle.block_image.specs.Refusals.{blockRules, blockAnswer}

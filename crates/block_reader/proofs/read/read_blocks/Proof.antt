@@ -1,20 +1,19 @@
 -- `read_blocks` meets its contract: the tests, and then what they allow. Assumes nothing.
 use borrow.Author.Needs.{needs}
 use borrow.Author.Tests.{not-true, not-false}
-use mathlib.Core.Path.{_≡_, refl, sym, _∙_, ap}
+use mathlib.Core.Path.{_≡_, sym, _∙_, ap}
 use mathlib.Core.Bool.{true}
-use Prim.Native.Nat.{ℕ, _*_, _+_, _≤_, _<_}
+use Prim.Native.Nat.{ℕ, _*_, _≤_}
 use native.Mathlib.Nat.{mul-le-mul, mul-le-mul-left}
 use native.Mathlib.Omega.{arith}
 use lib.ListN.{length}
 use Rattle.numbers.specs.Answer.{isDone}
-use Rattle.numbers.specs.declared.answer.Answer.the-variants.{Done}
 use Rattle.numbers.proofs.Named.{done-is}
 use Rattle.refusals.proofs.Promise.{refused, finished}
 use Rattle.lists.specs.Fill.{filled}
 use Rattle.lists.proofs.Fill.{filled-none, filled-more}
-use Rattle.block_image.specs.Taken.{blocksIn, Readable, rowsOf, wordAt}
-use Rattle.block_image.proofs.Fits.{words-most, whole-few}
+use Rattle.block_image.specs.Taken.{Readable, rowsOf, wordAt}
+use Rattle.block_image.proofs.Fits.{words-most}
 use Rattle.block_image.specs.Promises.{outputs, taken}
 use Rattle.block_image.proofs.Readable.{read-done, room-parts, rows-few, words-within}
 use Rattle.block_reader.proofs.read.read_blocks.Statement.{statement}

@@ -1,9 +1,9 @@
 -- `take_words` meets its contract. The invariant: the first i words are taken. Assumes nothing.
-use mathlib.Core.Path.{_≡_, refl, sym, _∙_, ap}
+use mathlib.Core.Path.{_≡_, refl, sym, _∙_}
 use Prim.Native.Nat.{_≤_, _-_, _*_}
 use native.Mathlib.Omega.{arith}
 use lib.ListN.{length, length-set}
-use Rattle.lists.specs.Fill.{tab, filled}
+use Rattle.lists.specs.Fill.{filled}
 use Rattle.lists.proofs.Fill.{filled-none, filled-more, filled-all}
 use Rattle.block_image.specs.Bytes.{word16}
 use Rattle.block_image.specs.Rules.{bytesFrom}

@@ -1,9 +1,8 @@
 -- `is_used` meets its contract: each test is the rule's, in its order. Assumes nothing.
-use mathlib.Core.Path.{_≡_, sym, _∙_}
+use mathlib.Core.Path.{sym}
 use Prim.Native.Nat.{_≤_, _*_}
 use native.Mathlib.Nat.{mul-le-mul}
 use native.Mathlib.Omega.{arith}
-use borrow.Author.Tests.{not-true, not-false}
 use Rattle.block_image.specs.Rules.{isUsed}
 use Rattle.block_image.proofs.Used.{used-over, used-last, used-short, used-full}
 use Rattle.block_reader.proofs.tests.is_used.Statement.{statement}

@@ -1,9 +1,9 @@
 -- `sum_of` meets its contract. The invariant: the sum of the first j words, modulo 2 to the 32. Assumes nothing.
 use borrow.Author.Needs.{needs}
-use mathlib.Core.Path.{_≡_, refl, sym, _∙_, ap}
-use Prim.Native.Nat.{_≤_, _-_, _+_, _*_, _%_, _^_}
+use mathlib.Core.Path.{_≡_, _∙_, ap}
+use Prim.Native.Nat.{_≤_, _-_, _+_, _%_, _^_}
 use native.Mathlib.Omega.{arith}
-use Rattle.block_image.specs.Bytes.{word32, sumTo}
+use Rattle.block_image.specs.Bytes.{sumTo}
 use Rattle.block_image.specs.Rules.{bytesFrom}
 use Rattle.block_image.proofs.Sum.{sum-none, sum-next}
 use Rattle.block_words.proofs.check.sum_of.Statement.{statement}

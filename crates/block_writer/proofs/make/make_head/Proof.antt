@@ -1,13 +1,10 @@
 -- `make_head` meets its contract: three parts, one after the other. Assumes nothing.
 use borrow.Author.Needs.{needs}
-use mathlib.Core.Path.{_≡_, refl, sym, _∙_, ap}
-use Prim.Native.Nat.{ℕ, _+_, _-_, _*_, _≤_, _<_}
+use mathlib.Core.Path.{sym}
 use native.Mathlib.Omega.{arith}
-use lib.ListN.{length}
-use Rattle.lists.specs.Fill.{filled}
 use Rattle.lists.proofs.Fill.{filled-none, filled-part, filled-next}
 use Rattle.block_image.specs.Bytes.{byteOf}
-use Rattle.block_writer.specs.Made.{wordByte, headByte, madeByte}
+use Rattle.block_writer.specs.Made.{headByte}
 use Rattle.block_writer.proofs.Made.{head-index, head-used, head-zero}
 use Rattle.block_writer.proofs.make.make_head.Statement.{statement}
 use Rattle.block_writer.proofs.make.make_head.Tie as tie

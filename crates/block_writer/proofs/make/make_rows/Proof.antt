@@ -1,13 +1,11 @@
 -- `make_rows` meets its contract: two parts. Assumes nothing.
 use borrow.Author.Needs.{needs}
-use mathlib.Core.Path.{_≡_, refl, sym, _∙_, ap}
-use Prim.Native.Nat.{ℕ, _+_, _-_, _*_, _≤_, _<_}
+use mathlib.Core.Path.{_≡_, sym, _∙_, ap}
+use Prim.Native.Nat.{_+_, _*_}
 use native.Mathlib.Omega.{arith}
 use lib.ListN.{length}
-use Rattle.lists.specs.Fill.{filled}
 use Rattle.lists.proofs.Fill.{filled-none, filled-part, filled-all, length-filled}
-use Rattle.block_image.specs.Bytes.{byteOf}
-use Rattle.block_writer.specs.Made.{wordByte, headByte, madeByte}
+use Rattle.block_writer.specs.Made.{wordByte}
 use Rattle.block_writer.proofs.Made.{row-past}
 use Rattle.block_writer.proofs.make.make_rows.Statement.{statement}
 use Rattle.block_writer.proofs.make.make_rows.Tie as tie

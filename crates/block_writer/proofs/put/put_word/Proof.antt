@@ -1,11 +1,9 @@
 -- `put_word` meets its contract: four stores. Assumes nothing.
 use borrow.Author.Needs.{needs}
-use mathlib.Core.Path.{_≡_, refl, sym, _∙_, ap}
-use Prim.Native.Nat.{ℕ, _+_, _-_, _*_, _/_, _%_, _≤_, _<_}
-use native.Mathlib.Nat.{div-one, mod-eq-of-lt}
+use mathlib.Core.Path.{refl, sym, _∙_, ap}
+use Prim.Native.Nat.{ℕ, _%_}
+use native.Mathlib.Nat.{div-one}
 use native.Mathlib.Omega.{arith}
-use lib.ListN.{length, getD, length-set}
-use Rattle.lists.specs.Fill.{filled}
 use Rattle.lists.proofs.Fill.{filled-none, filled-more, filled-all}
 use Rattle.block_image.specs.Bytes.{byteOf}
 use Rattle.block_writer.proofs.put.put_word.Statement.{statement}

@@ -1,12 +1,10 @@
 -- `put_zeros` meets its contract. The invariant: the first i bytes are zero. Assumes nothing.
-use mathlib.Core.Path.{_≡_, refl, sym, _∙_, ap}
-use Prim.Native.Nat.{ℕ, _+_, _-_, _*_, _/_, _%_, _≤_, _<_}
-use native.Mathlib.Nat.{div-one, mod-eq-of-lt}
+use mathlib.Core.Path.{_≡_, refl, sym, _∙_}
+use Prim.Native.Nat.{_-_, _≤_}
 use native.Mathlib.Omega.{arith}
-use lib.ListN.{length, getD, length-set}
+use lib.ListN.{length, length-set}
 use Rattle.lists.specs.Fill.{filled}
 use Rattle.lists.proofs.Fill.{filled-none, filled-more, filled-all}
-use Rattle.block_image.specs.Bytes.{byteOf}
 use Rattle.block_writer.proofs.put.put_zeros.Statement.{statement}
 use Rattle.block_writer.proofs.put.put_zeros.Tie as tie
 

@@ -1,13 +1,13 @@
 -- `one_block` meets its contract: the words of block k are lent, and what is made of them is the image's block. Assumes nothing.
 use borrow.Author.Needs.{needs}
-use mathlib.Core.Path.{_≡_, refl, sym, _∙_, ap}
+use mathlib.Core.Path.{_≡_, _∙_, ap}
 use Prim.Native.Nat.{ℕ, _+_, _-_, _*_, _≤_, _<_}
 use native.Mathlib.Nat.{mul-le-mul, mul-le-mul-left, mul-le-mul-right}
 use native.Mathlib.Omega.{arith}
 use lib.ListN.{length, take, drop, length-take, length-drop}
 use Rattle.lists.specs.Fill.{tab}
 use Rattle.lists.proofs.Fill.{tab-same}
-use Rattle.block_image.specs.Image.{usedIn, blockByte}
+use Rattle.block_image.specs.Image.{usedIn}
 use Rattle.block_image.proofs.Fits.{words-most}
 use Rattle.block_image.proofs.Counted.{begins, used-most}
 use Rattle.block_writer.specs.Made.{madeByte}
