@@ -15,13 +15,14 @@ use Rattle.signed.proofs.Range.{and-both}
 use Rattle.lists.proofs.Fill.{tab-at, length-tab}
 use Rattle.block_image.specs.Image.{imageByte, imageSize, blocksFor, image}
 use Rattle.block_image.specs.Rules.{blockBytes, usedAt, isWhole}
-use Rattle.block_image.specs.Taken.{blocksIn, Readable, rowsOf, planOf}
+use Rattle.block_image.specs.Taken.{blocksIn, WholeFile, rowsOf, planOf}
 use Rattle.block_image.specs.Fits.{Fits}
 use Rattle.block_image.specs.declared.format.Format.{Format}
-use Rattle.block_image.proofs.Held.{of-block, rows-are, rows-in}
+use Rattle.block_image.proofs.Held.{of-block, rows-are}
+use Rattle.block_image.proofs.RowsOf.{rows-in}
 use Rattle.block_image.proofs.BlockBack.{block-is}
 
-module _ (F : Format) (fit : Fits F) (bytes : List ℕ) (small : (i : ℕ) → getD bytes i 0 < 256) (accepted : Readable F bytes) where
+module _ (F : Format) (fit : Fits F) (bytes : List ℕ) (small : (i : ℕ) → getD bytes i 0 < 256) (accepted : WholeFile F bytes) where
   abbrev n : ℕ
   n = blocksIn bytes
 
@@ -49,7 +50,7 @@ module _ (F : Format) (fit : Fits F) (bytes : List ℕ) (small : (i : ℕ) → g
 
   size-is : imageSize F plan ≡ length bytes
   size-is =
-      ap (λ (x : ℕ). 512 * blocksFor F x) (rows-in F fit bytes small accepted)
+      ap (λ (x : ℕ). 512 * blocksFor F x) (rows-in F fit bytes)
       ∙ ap (λ (x : ℕ). 512 * x) blocks-are
       ∙ omega (arith, whole-is)
 

@@ -13,15 +13,16 @@ use Rattle.lists.proofs.Fill.{tab-at}
 use Rattle.block_image.specs.Bytes.{word32, byteOf, checkOf}
 use Rattle.block_image.specs.Image.{rowByte, bodyByte, blockByte}
 use Rattle.block_image.specs.Rules.{blockBytes, usedAt, isCheck}
-use Rattle.block_image.specs.Taken.{blocksIn, Readable, rowsOf, wordAt, planOf}
+use Rattle.block_image.specs.Taken.{blocksIn, WholeFile, rowsOf, wordAt, planOf}
 use Rattle.block_image.specs.Fits.{Fits}
 use Rattle.block_image.specs.declared.format.Format.{Format}
 use Rattle.block_image.proofs.Digits.{bytes-of, both-of, no-bytes}
 use Rattle.block_image.proofs.Sum.{sum-same}
 use Rattle.block_image.proofs.Zeros.{zero-at}
-use Rattle.block_image.proofs.Held.{of-block, plan-length, rows-past, used-is}
+use Rattle.block_image.proofs.Held.{of-block, rows-past, used-is}
+use Rattle.block_image.proofs.RowsOf.{plan-length}
 
-module _ (F : Format) (fit : Fits F) (bytes : List ℕ) (small : (i : ℕ) → getD bytes i 0 < 256) (accepted : Readable F bytes) where
+module _ (F : Format) (fit : Fits F) (bytes : List ℕ) (small : (i : ℕ) → getD bytes i 0 < 256) (accepted : WholeFile F bytes) where
   abbrev n : ℕ
   n = blocksIn bytes
 
@@ -39,7 +40,7 @@ module _ (F : Format) (fit : Fits F) (bytes : List ℕ) (small : (i : ℕ) → g
         tab-at _ (wordAt F bytes) _ 0 h ∙ rw (digits-div k {m = F .rows * F .words} {r = m} r, digits-mod k {m = F .rows * F .words} {r = m} r)
 
     word-past : (m : ℕ) → rowsOf F bytes * F .words ≤ k * (F .rows * F .words) + m → getD plan (k * (F .rows * F .words) + m) 0 ≡ 0
-    word-past m h = List·getD-eq-default plan 0 (rw (plan-length F fit bytes small accepted) h)
+    word-past m h = List·getD-eq-default plan 0 (rw (plan-length F bytes) h)
 
     past-is-zero : (i : ℕ) → i < 2 * (F .rows * F .words) → rowsOf F bytes * F .words ≤ k * (F .rows * F .words) + i / 2 → at (8 + F .zeros + i) ≡ 0
     past-is-zero i r h =

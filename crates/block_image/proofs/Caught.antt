@@ -1,5 +1,5 @@
--- What the check catches in a file: an accepted file with one word changed, or one byte, is refused by 41; and two files that are both accepted
--- hold two plans. Assumes nothing.
+-- What the check catches in a file: an accepted file with one word changed, or one byte, is refused by 41; and two
+-- different accepted files hold different plans. Assumes nothing.
 use mathlib.Core.Path.{_≡_, refl, sym, _∙_, ap}
 use mathlib.Core.Bool.{false}
 use mathlib.Core.List.{List}
@@ -16,9 +16,9 @@ use Rattle.refusals.specs.Ladder.{ladder}
 use Rattle.refusals.proofs.Ladder.{broken}
 use Rattle.block_image.specs.Bytes.{word32, byteOf}
 use Rattle.block_image.specs.Rules.{blockBytes, isWhole, isCheck}
-use Rattle.block_image.specs.Taken.{blocksIn, Readable, planOf}
+use Rattle.block_image.specs.Taken.{blocksIn, WholeFile, planOf}
 use Rattle.block_image.specs.Image.{image}
-use Rattle.block_image.specs.Refusals.{blockAnswer, blocksRules, readAnswer}
+use Rattle.block_image.specs.Refusals.{blockAnswer, blocksRules, fileAnswer}
 use Rattle.block_image.specs.Fits.{Fits}
 use Rattle.block_image.specs.declared.format.Format.{Format}
 use Rattle.block_image.proofs.Digits.{bytes-of}
@@ -30,7 +30,7 @@ use Rattle.block_image.proofs.Steps.{block-refused}
 use Rattle.block_image.proofs.Back.{one-image}
 
 module _ (F : Format) (fit : Fits F) (bytes bytes′ : List ℕ) (small : (i : ℕ) → getD bytes i 0 < 256) (small′ : (i : ℕ) → getD bytes′ i 0 < 256)
-    (accepted : Readable F bytes) (size : length bytes ≡ length bytes′) where
+    (accepted : WholeFile F bytes) (size : length bytes ≡ length bytes′) where
   abbrev n : ℕ
   n = blocksIn bytes
 
@@ -49,7 +49,7 @@ module _ (F : Format) (fit : Fits F) (bytes bytes′ : List ℕ) (small : (i : �
 
   -- a file whose block k is the first to have a wrong check
   check-refused : (k : ℕ) → k < n → ((i : ℕ) → i < 512 * k → getD bytes i 0 ≡ getD bytes′ i 0) → isCheck (blockBytes bytes′ k) ≡ false
-      → (room slots : ℕ) → readAnswer F bytes′ room slots ≡ BadCheck
+      → (room slots : ℕ) → fileAnswer F bytes′ room slots ≡ BadCheck
   unfolding blockAnswer isDone
   check-refused k l same wrong room slots =
       let here : ladder (blocksRules F bytes′ (suc k)) ≡ BadCheck =
@@ -61,7 +61,7 @@ module _ (F : Format) (fit : Fits F) (bytes bytes′ : List ℕ) (small : (i : �
   -- word j of block k is changed, and nothing else
   pub one-word-refused : (k j : ℕ) → k < n → j < 128 → (word32 (blockBytes bytes k) (4 * j) ≡ word32 (blockBytes bytes′ k) (4 * j) → ⊥)
       → ((i : ℕ) → (i < 512 * k + 4 * j) ⊎ (512 * k + 4 * j + 4 ≤ i) → getD bytes i 0 ≡ getD bytes′ i 0)
-      → (room slots : ℕ) → readAnswer F bytes′ room slots ≡ BadCheck
+      → (room slots : ℕ) → fileAnswer F bytes′ room slots ≡ BadCheck
   one-word-refused k j l m differs same =
       let at = blockBytes bytes k in
       let at′ = blockBytes bytes′ k in
@@ -73,9 +73,9 @@ module _ (F : Format) (fit : Fits F) (bytes bytes′ : List ℕ) (small : (i : �
       λ t. (sym (ap at z) ∙ away 0 (omega arith) ∙ ap at′ z) t + 256 * away 1 (omega arith) t + 65536 * away 2 (omega arith) t + 16777216 * away 3 (omega arith) t in
       check-refused k l (λ i h. same i (inl (omega arith))) (one-word-caught at at′ (λ b. small _) (λ b. small′ _) j m differs other (shown F bytes k (accepted .each k l) .check))
 
-  -- "Any single changed byte of an image is refused": byte i is changed, and nothing else
+  -- byte i is changed, and nothing else
   pub one-byte-refused : (i : ℕ) → i < 512 * n → (getD bytes i 0 ≡ getD bytes′ i 0 → ⊥)
-      → ((b : ℕ) → (b ≡ i → ⊥) → getD bytes b 0 ≡ getD bytes′ b 0) → (room slots : ℕ) → readAnswer F bytes′ room slots ≡ BadCheck
+      → ((b : ℕ) → (b ≡ i → ⊥) → getD bytes b 0 ≡ getD bytes′ b 0) → (room slots : ℕ) → fileAnswer F bytes′ room slots ≡ BadCheck
   one-byte-refused i l differs same =
       let k = i / 512 in
       let j = i % 512 / 4 in
@@ -87,7 +87,7 @@ module _ (F : Format) (fit : Fits F) (bytes bytes′ : List ℕ) (small : (i : �
       (λ e. differs (sym (ap (λ (x : ℕ). getD bytes x 0) z) ∙ sym of ∙ ap (λ (x : ℕ). byteOf x b) e ∙ of′ ∙ ap (λ (x : ℕ). getD bytes′ x 0) z))
       (λ x h. same x (λ (e : x ≡ i). ⊎-elim (λ (p : x < 512 * k + 4 * j). omega arith) (λ (p : 512 * k + 4 * j + 4 ≤ x). omega arith) h))
 
--- "or, where the check is changed to match, is another plan's image": two accepted files of one plan are one file
+-- two accepted files of one plan are one file: a change that is accepted, its check mended, makes another plan's image
 pub one-file : (F : Format) → Fits F → (bytes bytes′ : List ℕ) → ((i : ℕ) → getD bytes i 0 < 256) → ((i : ℕ) → getD bytes′ i 0 < 256)
-    → Readable F bytes → Readable F bytes′ → planOf F bytes ≡ planOf F bytes′ → bytes ≡ bytes′
+    → WholeFile F bytes → WholeFile F bytes′ → planOf F bytes ≡ planOf F bytes′ → bytes ≡ bytes′
 one-file F fit bytes bytes′ small small′ a a′ e = sym (one-image F fit bytes small a) ∙ ap (image F) e ∙ one-image F fit bytes′ small′ a′

@@ -14,7 +14,7 @@ use Rattle.numbers.specs.Limits.{mostJobs}
 use Rattle.block_image.specs.Bytes.{byteOf}
 use Rattle.block_image.specs.Image.{rowsIn, blocksFor, usedIn, image}
 use Rattle.block_image.specs.Rules.{blockBytes, usedAt, isWhole, isUsed}
-use Rattle.block_image.specs.Taken.{blocksIn, isBlock, Readable}
+use Rattle.block_image.specs.Taken.{blocksIn, isBlock, WholeFile}
 use Rattle.block_image.specs.Fits.{Fits}
 use Rattle.block_image.specs.declared.format.Format.{Format}
 use Rattle.block_image.proofs.Digits.{no-bytes}
@@ -88,7 +88,7 @@ module _ (F : Format) (fit : Fits F) (plan : List ℕ) (small : (i : ℕ) → ge
       let unused = zero-all at _ (2 * ((F .rows - usedAt at) * F .words)) (λ j h. ap (λ (x : ℕ). at (8 + F .zeros + 2 * (x * F .words) + j)) u ∙ unused-zero k l j (rw u at h)) in
       all (check-at F fit plan k l) (eq-eqb _ k (index-at F fit plan k l (omega (arith, low k l)))) (all some most full jobs) (λ j. before j && unused j)
 
-  pub accepted : Readable F bytes
+  pub accepted : WholeFile F bytes
   unfolding isWhole
   accepted =
       let size = image-length F plan in

@@ -11,12 +11,13 @@ use Rattle.signed.proofs.Naturals.{either}
 use Rattle.lists.proofs.Fill.{length-tab}
 use Rattle.block_image.specs.Image.{rowsIn, usedIn}
 use Rattle.block_image.specs.Rules.{blockBytes, usedAt}
-use Rattle.block_image.specs.Taken.{blocksIn, Readable, rowsOf, planOf}
+use Rattle.block_image.specs.Taken.{blocksIn, WholeFile, rowsOf, planOf}
 use Rattle.block_image.specs.Fits.{Fits}
 use Rattle.block_image.specs.declared.format.Format.{Format}
+use Rattle.block_image.proofs.RowsOf.{rows-in}
 use Rattle.block_image.proofs.Block.{Shown, shown}
 
-module _ (F : Format) (fit : Fits F) (bytes : List ℕ) (small : (i : ℕ) → getD bytes i 0 < 256) (accepted : Readable F bytes) where
+module _ (F : Format) (fit : Fits F) (bytes : List ℕ) (small : (i : ℕ) → getD bytes i 0 < 256) (accepted : WholeFile F bytes) where
   abbrev n : ℕ
   n = blocksIn bytes
 
@@ -31,13 +32,6 @@ module _ (F : Format) (fit : Fits F) (bytes : List ℕ) (small : (i : ℕ) → g
 
   pub rows-are : (k : ℕ) → k < n → rowsOf F bytes ≡ (n - 1) * F .rows + used (n - 1)
   rows-are k l = rw (ne-eqb n 0 (λ (e : n ≡ 0). omega arith))
-
-  pub plan-length : length plan ≡ rowsOf F bytes * F .words
-  unfolding planOf
-  plan-length = length-tab _ _
-
-  pub rows-in : rowsIn F plan ≡ rowsOf F bytes
-  rows-in = ap (λ (m : ℕ). m / F .words) plan-length ∙ mul-div-cancel (rowsOf F bytes) (fit .some-words)
 
   last-is : (k : ℕ) → k + 1 ≡ n → (n - 1) * F .rows + used (n - 1) ≡ k * F .rows + used k
   last-is k e = let z : n - 1 ≡ k = omega arith in ap (λ (m : ℕ). m * F .rows + used m) z
@@ -55,7 +49,7 @@ module _ (F : Format) (fit : Fits F) (bytes : List ℕ) (small : (i : ℕ) → g
 
   pub used-is : (k : ℕ) → k < n → usedIn F (rowsIn F plan) k ≡ used k
   used-is k l =
-      ap (λ (m : ℕ). usedIn F m k) rows-in
+      ap (λ (m : ℕ). usedIn F m k) (rows-in F fit bytes)
       ∙ ⊎-elim
       (λ p. ap (λ (m : ℕ). min (F .rows) (m - k * F .rows)) (p .1) ∙ ap (min (F .rows)) (omega arith) ∙ min-eq-right (of-block k l .fit))
       (λ p. min-eq-left (omega (arith, p .1)) ∙ sym (p .0))

@@ -9,8 +9,9 @@ pub mod Block
 pub mod Alike
 pub mod RowsOf
 pub mod Walk
+pub mod InOrder
 pub mod Steps
-pub mod Readable
+pub mod WholeFile
 -- accepted bytes are the image of the plan that is read:
 pub mod Held
 pub mod BlockBack

@@ -1,4 +1,4 @@
--- What reading and writing leave: "A refused call .. changes nothing lent"; a list longer than needed keeps its tail.
+-- What reading and writing leave: "A refusal changes nothing lent." (document 01); a list longer than needed keeps its tail.
 use mathlib.Core.List.{List}
 use Prim.Native.Nat.{ℕ, _*_}
 use lib.ListN.{length}
@@ -8,32 +8,32 @@ use Rattle.lists.specs.Fill.{filled}
 use Rattle.block_image.specs.Image.{imageByte, imageSize}
 use Rattle.block_image.specs.Taken.{rowsOf, wordAt}
 use Rattle.block_image.specs.declared.format.Format.{Format}
-use Rattle.block_image.specs.Refusals.{readAnswer, writeAnswer}
+use Rattle.block_image.specs.Refusals.{fileAnswer, writeAnswer}
 
 -- the two outputs that a call is lent: what it writes, and how many
 pub record Outputs : Type 0 where
-  pub written : List ℕ
+  pub list : List ℕ
   pub count : List ℕ
 
 abbrev pub outputs : List ℕ → List ℕ → Outputs
-outputs xs ns = record { written = xs; count = ns }
+outputs xs ns = record { list = xs; count = ns }
 
 abbrev pub taken : Format → List ℕ → Outputs → Outputs
 taken F bytes before =
-    outputs (filled (rowsOf F bytes * F .words) (wordAt F bytes) (before .written)) (filled 1 (λ i. rowsOf F bytes) (before .count))
+    outputs (filled (rowsOf F bytes * F .words) (wordAt F bytes) (before .list)) (filled 1 (λ i. rowsOf F bytes) (before .count))
 
 abbrev pub answerRead : Format → List ℕ → Outputs → Answer
-answerRead F bytes before = readAnswer F bytes (length (before .written)) (length (before .count))
+answerRead F bytes before = fileAnswer F bytes (length (before .list)) (length (before .count))
 
 abbrev pub ReadPlan : Format → List ℕ → Outputs → Outputs → Answer → Type 0
 ReadPlan F bytes before after r = Promise (answerRead F bytes before) (lent (answerRead F bytes before) (taken F bytes before) before) r after
 
 abbrev pub put : Format → List ℕ → Outputs → Outputs
 put F plan before =
-    outputs (filled (imageSize F plan) (imageByte F plan) (before .written)) (filled 1 (λ i. imageSize F plan) (before .count))
+    outputs (filled (imageSize F plan) (imageByte F plan) (before .list)) (filled 1 (λ i. imageSize F plan) (before .count))
 
 abbrev pub answerWrite : Format → List ℕ → Outputs → Answer
-answerWrite F plan before = writeAnswer F plan (length (before .written)) (length (before .count))
+answerWrite F plan before = writeAnswer F plan (length (before .list)) (length (before .count))
 
 abbrev pub WritePlan : Format → List ℕ → Outputs → Outputs → Answer → Type 0
 WritePlan F plan before after r = Promise (answerWrite F plan before) (lent (answerWrite F plan before) (put F plan before) before) r after

@@ -34,13 +34,13 @@ blocksRules F bytes (suc k) = blocksRules F bytes k ++ blockRules F (eqb (k + 1)
 unfoldable pub hasRoom : ℕ → ℕ → ℕ → Bool
 hasRoom need room slots = leb need room && leb 1 slots
 
-abbrev pub readRules : Format → List ℕ → ℕ → ℕ → List Rule
-readRules F bytes room slots =
+abbrev pub fileRules : Format → List ℕ → ℕ → ℕ → List Rule
+fileRules F bytes room slots =
     isWhole F (length bytes) else NotBlocks ∷
     blocksRules F bytes (blocksIn bytes) ++ (hasRoom (rowsOf F bytes * F .words) room slots else NoRoom ∷ [])
 
-unfoldable pub readAnswer : Format → List ℕ → ℕ → ℕ → Answer
-readAnswer F bytes room slots = ladder (readRules F bytes room slots)
+unfoldable pub fileAnswer : Format → List ℕ → ℕ → ℕ → Answer
+fileAnswer F bytes room slots = ladder (fileRules F bytes room slots)
 
 -- 21: "plan not whole rows or above 1,024 jobs"
 unfoldable pub isRows : Format → List ℕ → Bool

@@ -18,10 +18,11 @@ blocksIn bytes = length bytes / 512
 -- block k is as it must be
 abbrev pub isBlock : Format → List ℕ → ℕ → Bool
 isBlock F bytes k =
-    isCheck (blockBytes bytes k) && isIndex k (blockBytes bytes k) && isUsed F (eqb (k + 1) (blocksIn bytes)) k (usedAt (blockBytes bytes k)) && isZero F (usedAt (blockBytes bytes k)) (blockBytes bytes k)
+    let at = blockBytes bytes k in
+    isCheck at && isIndex k at && isUsed F (eqb (k + 1) (blocksIn bytes)) k (usedAt at) && isZero F (usedAt at) at
 
 -- whole blocks, each as it must be
-pub record Readable (F : Format) (bytes : List ℕ) : Type 0 where
+pub record WholeFile (F : Format) (bytes : List ℕ) : Type 0 where
   pub whole : isWhole F (length bytes) ≡ true
   pub each : (k : ℕ) → k < blocksIn bytes → isBlock F bytes k ≡ true
 

@@ -11,7 +11,7 @@ ghost use Rattle.numbers.specs.Answer.{isDone};
 ghost use Rattle.block_image.specs.Rules.{isWhole};
 ghost use Rattle.block_image.specs.Taken.{rowsOf};
 ghost use Rattle.block_image.specs.Fits.{Fits};
-ghost use Rattle.block_image.specs.Refusals.{readAnswer};
+ghost use Rattle.block_image.specs.Refusals.{fileAnswer};
 ghost use Rattle.block_image.specs.Promises.{outputs, ReadPlan};
 
 // 40: whole blocks, and not too many.
@@ -27,7 +27,7 @@ fn is_whole(f: Format, n: usize) -> bool
 // What reading answers.
 fn read_answer(f: Format, bytes: &[u8], room: usize, slots: usize) -> Tested
     requires { ⌜ Fits f ⌝ }
-    ensures { λ r. ⌜ (r .answer ≡ readAnswer f (now (bytes .entry)) room slots) × (isDone (r .answer) ≡ true → r .rows ≡ rowsOf f (now (bytes .entry))) ⌝ }
+    ensures { λ r. ⌜ (r .answer ≡ fileAnswer f (now (bytes .entry)) room slots) × (isDone (r .answer) ≡ true → r .rows ≡ rowsOf f (now (bytes .entry))) ⌝ }
 {
     if !is_whole(f, bytes.len()) {
         return Tested {

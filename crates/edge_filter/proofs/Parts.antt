@@ -8,9 +8,7 @@ use native.Mathlib.Omega.{arith}
 use lib.ListN.{length, getD, take, drop, length-take}
 use lib.IntN.{ℤ, pos}
 use Rattle.signed.specs.Range.{inside, Edge}
-use Rattle.lists.specs.Fill.{tab, filled}
 use Rattle.lists.proofs.Fill.{rest-at, rest-each, rest-length}
-use borrow.Rule.Slice.PartMut.{putMid}
 use Rattle.kernels.specs.Kernel.{five, taps5}
 use Rattle.edge_filter.specs.Filter.{padded}
 use Rattle.edge_filter.specs.Padded.{entryAt, Ends}

@@ -17,12 +17,12 @@ use Rattle.numbers.proofs.Named.{done-is}
 use Rattle.refusals.specs.Ladder.{Rule, _else_, ladder}
 use Rattle.refusals.proofs.Ladder.{ladder-append}
 use Rattle.block_image.specs.Rules.{blockBytes, isWhole}
-use Rattle.block_image.specs.Taken.{blocksIn, Readable, rowsOf}
+use Rattle.block_image.specs.Taken.{blocksIn, WholeFile, rowsOf}
 use Rattle.block_image.specs.Refusals.{blockRules, blocksRules, hasRoom}
 use Rattle.block_image.specs.declared.format.Format.{Format}
 use Rattle.block_image.proofs.Walk.{refuses-all}
 use Rattle.block_image.proofs.Steps.{not-blocks, block-refused, all-passed}
-use Rattle.block_image.proofs.Readable.{accepted-of, rows-few}
+use Rattle.block_image.proofs.WholeFile.{accepted-of, rows-few}
 use Rattle.plan_page.specs.Page.{answerOfFile}
 
 -- done, or 40 to 44
@@ -64,7 +64,7 @@ module _ (F : Format) (bytes : List ℕ) where
       (pick (isDone (ladder (blocksRules F bytes n))) (of-block _ n (blockBytes bytes n)) (of-blocks n))
 
   -- a file that is accepted holds no more than every plan does
-  pub room-for-all : Readable F bytes → hasRoom (rowsOf F bytes * F .words) (mostJobs * F .words) 1 ≡ true
+  pub room-for-all : WholeFile F bytes → hasRoom (rowsOf F bytes * F .words) (mostJobs * F .words) 1 ≡ true
   unfolding hasRoom
   room-for-all good = ap (λ b. b && true) (le-leb (rowsOf F bytes * F .words) (mostJobs * F .words) (mul-le-mul-right (F .words) (rows-few F bytes good)))
 

@@ -10,6 +10,7 @@ use Rattle.block_image.specs.Image.{rowsIn}
 use Rattle.block_image.specs.Taken.{rowsOf, planOf}
 use Rattle.block_image.specs.Fits.{Fits}
 use Rattle.block_image.specs.declared.format.Format.{Format}
+use Rattle.block_image.proofs.RowsOf.{rows-in}
 use Rattle.plan_page.specs.Page.{lineEnd, decimal, linesTo, linesOf, answerOfFile, pageOf}
 
 module _ (F : Format) (bytes : List ℕ) where
@@ -24,9 +25,5 @@ module _ (F : Format) (bytes : List ℕ) where
   unfolding pageOf
   page-accepted e = ap (λ b. cond b (linesOf F (planOf F bytes)) refusal) e
 
-  rows-in : Fits F → rowsIn F (planOf F bytes) ≡ rowsOf F bytes
-  unfolding planOf
-  rows-in fit = ap (λ (m : ℕ). m / F .words) (length-tab _ _) ∙ mul-div-cancel (rowsOf F bytes) (fit .some-words)
-
   pub page-done : Fits F → isDone (answerOfFile F bytes) ≡ true → linesTo (F .words) (planOf F bytes) (rowsOf F bytes) ≡ pageOf F bytes
-  page-done fit e = ap (linesTo (F .words) (planOf F bytes)) (sym (rows-in fit)) ∙ sym (page-accepted e)
+  page-done fit e = ap (linesTo (F .words) (planOf F bytes)) (sym (rows-in F fit bytes)) ∙ sym (page-accepted e)

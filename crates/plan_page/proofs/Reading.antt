@@ -1,4 +1,4 @@
--- What reading a file with room for every plan left in the pageLists that it was lent. Assumes nothing.
+-- What reading a file with room for every plan left in the lists that it was lent. Assumes nothing.
 use mathlib.Core.Path.{_≡_, refl, sym, _∙_, ap}
 use mathlib.Core.Bool.{Bool, true, false, cond}
 use mathlib.Core.List.{List, _++_}
@@ -17,9 +17,9 @@ use Rattle.lists.proofs.Fill.{filled-at, length-tab}
 use Rattle.block_image.specs.Taken.{rowsOf, wordAt, planOf}
 use Rattle.block_image.specs.Fits.{Fits}
 use Rattle.block_image.specs.Promises.{outputs, taken, answerRead, ReadPlan}
-use Rattle.block_image.specs.Refusals.{readAnswer}
+use Rattle.block_image.specs.Refusals.{fileAnswer}
 use Rattle.block_image.specs.declared.format.Format.{Format}
-use Rattle.block_image.proofs.Readable.{read-done, rows-few}
+use Rattle.block_image.proofs.WholeFile.{read-done, rows-few}
 use Rattle.plan_page.specs.Page.{linesTo, answerOfFile, pageOf}
 use Rattle.plan_page.specs.Promises.{pageLists, ShowPage}
 use Rattle.plan_page.specs.Put.{Put}
@@ -43,15 +43,15 @@ page-at F bytes plan xs plan′ ys r p =
 module _ (F : Format) (bytes plan rows plan′ rows′ : List ℕ) (r : Answer) (long : length plan ≡ mostJobs * F .words) (one : length rows ≡ 1)
     (p : ReadPlan F bytes (outputs plan rows) (outputs plan′ rows′) r) where
   pub answer-is : r ≡ answerOfFile F bytes
-  answer-is = p .answers ∙ (λ j. readAnswer F bytes (long j) (one j))
+  answer-is = p .answers ∙ (λ j. fileAnswer F bytes (long j) (one j))
 
   plan-is : plan′ ≡ lent (answerOfFile F bytes) (filled (rowsOf F bytes * F .words) (wordAt F bytes) plan) plan
   plan-is =
-      ap (λ o. o .written) (p .holds)
+      ap (λ o. o .list) (p .holds)
       ∙ part (isDone (answerRead F bytes (outputs plan rows)))
-      ∙ (λ j. lent (readAnswer F bytes (long j) (one j)) (filled (rowsOf F bytes * F .words) (wordAt F bytes) plan) plan)
+      ∙ (λ j. lent (fileAnswer F bytes (long j) (one j)) (filled (rowsOf F bytes * F .words) (wordAt F bytes) plan) plan)
     where
-      part : (b : Bool) → cond b (taken F bytes (outputs plan rows)) (outputs plan rows) .written ≡ cond b (filled (rowsOf F bytes * F .words) (wordAt F bytes) plan) plan
+      part : (b : Bool) → cond b (taken F bytes (outputs plan rows)) (outputs plan rows) .list ≡ cond b (filled (rowsOf F bytes * F .words) (wordAt F bytes) plan) plan
       part true = refl
       part false = refl
 
@@ -68,7 +68,7 @@ module _ (F : Format) (bytes plan rows plan′ rows′ : List ℕ) (r : Answer) 
 
     plan-left : take (rowsOf F bytes * F .words) plan′ ≡ planOf F bytes
     unfolding planOf
-    plan-left = ap (λ o. take (rowsOf F bytes * F .words) (o .written)) left ∙ take-at _ _ _ (length-tab _ _)
+    plan-left = ap (λ o. take (rowsOf F bytes * F .words) (o .list)) left ∙ take-at _ _ _ (length-tab _ _)
 
     plan-long : rowsOf F bytes * F .words ≤ length plan′
     unfolding planOf

@@ -7,7 +7,7 @@ use Rattle.numbers.specs.Limits.{mostJobs}
 use Rattle.numbers.specs.Answer.{isDone}
 use Rattle.numbers.specs.declared.answer.Answer.the-variants.{Done}
 use Rattle.block_image.specs.Image.{rowsIn, image}
-use Rattle.block_image.specs.Taken.{Readable}
+use Rattle.block_image.specs.Taken.{WholeFile}
 use Rattle.block_image.specs.Fits.{Fits}
 use Rattle.block_image.specs.declared.format.Format.{Format}
 use Rattle.block_image.proofs.Forth.{accepted}
@@ -17,7 +17,7 @@ use Rattle.plan_page.specs.Page.{linesOf, answerOfFile, pageOf}
 use Rattle.plan_page.proofs.PageOf.{page-accepted}
 use Rattle.plan_page.proofs.Never45.{room-for-all}
 
-file-done : (F : Format) (bytes : List ℕ) → Readable F bytes → answerOfFile F bytes ≡ Done
+file-done : (F : Format) (bytes : List ℕ) → WholeFile F bytes → answerOfFile F bytes ≡ Done
 file-done F bytes good = read-accepted F bytes good (mostJobs * F .words) 1 (room-for-all F bytes good)
 
 -- a plan of whole rows, at most 1,024, of 16-bit words

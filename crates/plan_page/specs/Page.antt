@@ -11,7 +11,7 @@ use Rattle.numbers.specs.Answer.{answerNumber, isDone}
 use Rattle.numbers.specs.declared.answer.Answer.{Answer}
 use Rattle.block_image.specs.Image.{rowsIn}
 use Rattle.block_image.specs.Taken.{planOf}
-use Rattle.block_image.specs.Refusals.{readAnswer}
+use Rattle.block_image.specs.Refusals.{fileAnswer}
 use Rattle.block_image.specs.declared.format.Format.{Format}
 
 abbrev pub space : ℕ
@@ -52,7 +52,7 @@ linesOf F plan = linesTo (F .words) plan (rowsIn F plan)
 
 -- what reading the file answers where there is room for every plan
 abbrev pub answerOfFile : Format → List ℕ → Answer
-answerOfFile F bytes = readAnswer F bytes (mostJobs * F .words) 1
+answerOfFile F bytes = fileAnswer F bytes (mostJobs * F .words) 1
 
 -- what is printed of a file
 unfoldable pub pageOf : Format → List ℕ → List ℕ

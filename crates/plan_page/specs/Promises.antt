@@ -1,4 +1,4 @@
--- What a call leaves in the pageLists that it was lent, in every file's case.
+-- What a call leaves in the lists that it was lent, in every file's case.
 use mathlib.Core.List.{List, _++_}
 use Prim.Native.Nat.{ℕ, _*_}
 use lib.ListN.{length, drop}
@@ -10,16 +10,16 @@ use Rattle.plan_page.specs.Page.{answerOfFile, pageOf}
 
 -- the two that a call is lent: for the plan's words, and for the text
 pub record PageLists : Type 0 where
-  pub words : List ℕ
+  pub rows : List ℕ
   pub text : List ℕ
 
 abbrev pub pageLists : List ℕ → List ℕ → PageLists
-pageLists ws ts = record { words = ws; text = ts }
+pageLists ws ts = record { rows = ws; text = ts }
 
 -- the plan's words, or nothing new where the file is refused; and the page. What follows each is as it was
 abbrev pub shown : Format → List ℕ → PageLists → PageLists
 shown F bytes before =
-    pageLists (lent (answerOfFile F bytes) (filled (rowsOf F bytes * F .words) (wordAt F bytes) (before .words)) (before .words))
+    pageLists (lent (answerOfFile F bytes) (filled (rowsOf F bytes * F .words) (wordAt F bytes) (before .rows)) (before .rows))
     (pageOf F bytes ++ drop (length (pageOf F bytes)) (before .text))
 
 -- r is the length of the page

@@ -11,7 +11,12 @@ fn show(bytes: &[u8]) {
     let mut plan = room::plan();
     let mut text = room::text();
     let n = plan_page::page(bytes, &mut plan, &mut text);
-    io::write_all(STDOUT_FILENO, &text[..n]);
+    if !io::write_all(STDOUT_FILENO, &text[..n]) {
+        io::write_all(
+            STDERR_FILENO,
+            b"show_plan: standard output cannot be written\n",
+        );
+    }
 }
 
 // Whether standard input is at its end: where a read failed, what came before it must not pass for a shorter file.

@@ -1,4 +1,4 @@
--- `page` meets its contract: request (iv)'s numbers fit, and so do the pageLists that are lent. Assumes nothing.
+-- `page` meets its contract: request (iv)'s numbers fit, and so do the lists that are lent. Assumes nothing.
 use borrow.Author.Needs.{needs}
 use mathlib.Core.Path.{sym}
 use lib.Seq.{length-take-le}

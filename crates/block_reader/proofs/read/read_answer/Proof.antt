@@ -15,7 +15,7 @@ use Rattle.block_image.specs.Rules.{isWhole}
 use Rattle.block_image.specs.Taken.{blocksIn, rowsOf}
 use Rattle.block_image.specs.Refusals.{blocksRules, hasRoom}
 use Rattle.block_image.proofs.Fits.{words-most, whole-few}
-use Rattle.block_image.proofs.Readable.{accepted-of, rows-few}
+use Rattle.block_image.proofs.WholeFile.{accepted-of, rows-few}
 use Rattle.block_image.proofs.Steps.{not-blocks, block-refused, no-room, all-passed}
 use Rattle.block_reader.proofs.read.read_answer.Statement.{statement}
 use Rattle.block_reader.proofs.read.read_answer.Tie as tie

@@ -12,10 +12,10 @@ use Rattle.numbers.proofs.Named.{done-is}
 use Rattle.refusals.proofs.Promise.{refused, finished}
 use Rattle.lists.specs.Fill.{filled}
 use Rattle.lists.proofs.Fill.{filled-none, filled-more}
-use Rattle.block_image.specs.Taken.{Readable, rowsOf, wordAt}
+use Rattle.block_image.specs.Taken.{WholeFile, rowsOf, wordAt}
 use Rattle.block_image.proofs.Fits.{words-most}
 use Rattle.block_image.specs.Promises.{outputs, taken}
-use Rattle.block_image.proofs.Readable.{read-done, room-parts, rows-few, words-within}
+use Rattle.block_image.proofs.WholeFile.{read-done, room-parts, rows-few, words-within}
 use Rattle.block_reader.proofs.read.read_blocks.Statement.{statement}
 use Rattle.block_reader.proofs.read.read_blocks.Tie as tie
 
@@ -32,7 +32,7 @@ module _ (c : tie.Else1) where
   count-is : count ≡ rowsOf (t .args .f) (t .args .bytes .now)
   count-is = c .before .before .read-answer .ensures .1 yes
 
-  shown : Readable (t .args .f) (t .args .bytes .now) × ((rowsOf (t .args .f) (t .args .bytes .now) * t .args .f .words ≤ length (t .args .plan .now)) × (1 ≤ length (t .args .rows .now)))
+  shown : WholeFile (t .args .f) (t .args .bytes .now) × ((rowsOf (t .args .f) (t .args .bytes .now) * t .args .f .words ≤ length (t .args .plan .now)) × (1 ≤ length (t .args .rows .now)))
   shown =
       let d = read-done (t .args .f) (t .args .bytes .now) _ _ (sym (c .before .before .read-answer .ensures .0) ∙ done-is _ yes) in
       (d .0, room-parts _ _ _ (d .1))

@@ -14,7 +14,7 @@ use Rattle.lists.proofs.Fill.{filled-none, filled-more}
 use Rattle.block_image.specs.Image.{rowsIn, blocksFor, imageByte, imageSize}
 use Rattle.block_image.specs.Promises.{outputs}
 use Rattle.block_writer.specs.Made.{WholeRows}
-use Rattle.block_image.proofs.Readable.{room-parts}
+use Rattle.block_image.proofs.WholeFile.{room-parts}
 use Rattle.block_writer.proofs.Written.{whole-rows, write-done}
 use Rattle.block_writer.proofs.write.write_blocks.Statement.{statement}
 use Rattle.block_writer.proofs.write.write_blocks.Tie as tie

@@ -16,11 +16,11 @@ use Rattle.numbers.specs.declared.answer.Answer.the-variants.{Done, NoRoom}
 use Rattle.refusals.specs.Ladder.{Rule, _else_, ladder}
 use Rattle.refusals.proofs.Ladder.{AllKept, all-kept, kept-append, refuses-append}
 use Rattle.block_image.specs.Rules.{blockBytes, isWhole}
-use Rattle.block_image.specs.Taken.{blocksIn, Readable, rowsOf}
+use Rattle.block_image.specs.Taken.{blocksIn, WholeFile, rowsOf}
 use Rattle.block_image.specs.declared.format.Format.{Format}
 use Rattle.block_image.proofs.Block.{shown}
 use Rattle.block_image.proofs.RowsOf.{rows-none, rows-some}
-use Rattle.block_image.specs.Refusals.{blockRules, blocksRules, hasRoom, readRules, readAnswer}
+use Rattle.block_image.specs.Refusals.{blockRules, blocksRules, hasRoom, fileRules, fileAnswer}
 use Rattle.block_image.proofs.Walk.{refuses-all}
 
 pub room-parts : (need room slots : ℕ) → hasRoom need room slots ≡ true → (need ≤ room) × (1 ≤ slots)
@@ -38,27 +38,27 @@ module _ (F : Format) (bytes : List ℕ) where
       let p = kept-append (blocksRules F bytes n) (of n) h in
       ⊎-elim (λ e. subst (λ (x : ℕ). AllKept (of x)) (sym e) (p .1)) (λ q. each-kept n k q (p .0)) (eq-or-lt-of-le (le-of-suc-le-suc l))
 
-  accepted-by : isWhole F (length bytes) ≡ true → AllKept (blocksRules F bytes (blocksIn bytes)) → Readable F bytes
+  accepted-by : isWhole F (length bytes) ≡ true → AllKept (blocksRules F bytes (blocksIn bytes)) → WholeFile F bytes
   accepted-by w all =
       record {
         whole = w;
         each = λ k l. let p = each-kept (blocksIn bytes) k l all in λ j. p .0 j && p .1 .0 j && p .1 .1 .0 j && p .1 .1 .1 .0 j;
       }
 
-  pub accepted-of : isWhole F (length bytes) ≡ true → ladder (blocksRules F bytes (blocksIn bytes)) ≡ Done → Readable F bytes
+  pub accepted-of : isWhole F (length bytes) ≡ true → ladder (blocksRules F bytes (blocksIn bytes)) ≡ Done → WholeFile F bytes
   accepted-of w e = accepted-by w (all-kept (blocksRules F bytes (blocksIn bytes)) (refuses-all F bytes (blocksIn bytes)) e)
 
   -- a reading that is done
-  pub read-done : (room slots : ℕ) → readAnswer F bytes room slots ≡ Done → Readable F bytes × (hasRoom (rowsOf F bytes * F .words) room slots ≡ true)
-  unfolding readAnswer
+  pub read-done : (room slots : ℕ) → fileAnswer F bytes room slots ≡ Done → WholeFile F bytes × (hasRoom (rowsOf F bytes * F .words) room slots ≡ true)
+  unfolding fileAnswer
   read-done room slots e =
       let rules = blocksRules F bytes (blocksIn bytes) in
       let last = hasRoom (rowsOf F bytes * F .words) room slots else NoRoom ∷ [] in
-      let all = all-kept (readRules F bytes room slots) (refuses-append rules last (refuses-all F bytes (blocksIn bytes)) tt) e in
+      let all = all-kept (fileRules F bytes room slots) (refuses-append rules last (refuses-all F bytes (blocksIn bytes)) tt) e in
       let two = kept-append rules last (all .1) in
       (accepted-by (all .0) (two .0), two .1 .0)
 
-  module _ (accepted : Readable F bytes) where
+  module _ (accepted : WholeFile F bytes) where
     pub rows-few : rowsOf F bytes ≤ mostJobs
     rows-few =
         ⊎-elim
