@@ -47,7 +47,7 @@ enum latch_answer {
     LATCH_OUT_OF_TURN = 42,          /* a block's index is not its place in the file */
     LATCH_BAD_USED = 43,             /* a block's count of rows is wrong, or passes 1024 jobs */
     LATCH_NOT_ZERO = 44,             /* a byte of a block that must be zero is not */
-    LATCH_NO_ROOM = 45               /* a list is too short for what is written or read */
+    LATCH_NO_ROOM = 45               /* a list is too short for what is written or read, or for the count */
 };
 
 /* A job is a row of sixteen 16-bit words. Words 5, 6, 13 and 14 are looked at only in mode 4. */
@@ -332,7 +332,8 @@ uint32_t latch_run(float *plane, size_t plane_len, size_t width, size_t height, 
  * without a job has no blocks. The rows' words may be anything: no job is tested here.
  *
  * Writes 512 bytes a block to out, from its start on, and how many bytes that are to length[0].
- * Lent: plan, exactly 16 words a job; out, at least 512 bytes for every fifteen jobs or part of fifteen; length, at least one entry.
+ * Lent: plan, exactly 16 words a job; out, at least 512 bytes for every fifteen jobs or part of fifteen; length, at least one
+ * entry.
  *
  * Refusals, in the order of checking:
  *   21  plan_len is not a multiple of 16 or is above 16 x 1024
@@ -341,9 +342,9 @@ uint32_t latch_run(float *plane, size_t plane_len, size_t width, size_t height, 
 uint32_t latch_write_plan(const uint16_t *plan, size_t plan_len, uint8_t *out, size_t out_len,
                           size_t *length, size_t length_len);
 
-/* read_plan: the plan of such a file. What is read is what was written: the bytes that are taken are exactly those that
- * latch_write_plan writes, of the plan that they hold. A file with one word changed, and no other, is refused by 41. What the format
- * cannot tell: a file that has lost blocks at its end is a shorter plan's file, and is taken.
+/* read_plan: the plan of such a file. A file is accepted only if it is exactly what latch_write_plan writes for the plan that it
+ * holds. If one of its four-byte words is changed, and no other, it is refused by 41. What the format cannot tell: a file that has
+ * lost blocks at its end is a shorter plan's file, and is accepted.
  *
  * Writes 16 words a job to plan, from its start on, and how many jobs these are to rows[0].
  * Lent: bytes, exactly the file; plan, at least 16 words a job of it; rows, at least one entry.

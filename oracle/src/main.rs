@@ -1,4 +1,5 @@
-// main.rs: holds the proved library against the original Rust. Two arguments: the scale, of which 1 is the usual run, and the project's root.
+// main.rs: holds the proved library against the original Rust, and on plans' files against plain Rust of our own. Two arguments: the scale, of
+// which 1 is the usual run, and the project's root.
 mod blocks;
 mod calls;
 mod colour;
