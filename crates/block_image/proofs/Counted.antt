@@ -1,8 +1,8 @@
--- How many rows of n stand in each of their blocks. Assumes nothing.
+-- How many rows of n stand in each of their blocks: "All blocks but the last hold fifteen rows; an empty plan has no blocks." Assumes nothing.
 use mathlib.Core.Path.{_≡_}
 use mathlib.Core.Logic.{_⊎_, inl, inr, ⊎-elim}
 use Prim.Native.Nat.{ℕ, _+_, _-_, _*_, _<_, _≤_}
-use native.Mathlib.Nat.{le-div-iff-mul-le, div-lt-iff-lt-mul, min-eq-left, min-eq-right}
+use native.Mathlib.Nat.{div-eq-of-lt, le-div-iff-mul-le, div-lt-iff-lt-mul, min-eq-left, min-eq-right}
 use native.Mathlib.Omega.{arith}
 use Rattle.signed.proofs.Naturals.{either}
 use Rattle.block_image.specs.Image.{blocksFor, usedIn}
@@ -45,3 +45,7 @@ module _ (F : Format) (fit : Fits F) (n : ℕ) where
 
   pub within : (k : ℕ) → k < blocks → k * F .rows + usedIn F n k ≤ n
   within k l = ⊎-elim (λ p. rw (p .1) (omega (arith, begins k l))) (λ p. rw (p .0) (p .1)) (last-or-full k l)
+
+-- "an empty plan has no blocks"
+pub no-blocks : (F : Format) → Fits F → blocksFor F 0 ≡ 0
+no-blocks F fit = div-eq-of-lt (omega (arith, fit .some-rows))

@@ -22,6 +22,7 @@ blockRules F last k at =
     isUsed F last k (usedAt at) else BadUsed ∷
     isZero F (usedAt at) at else NotZero ∷ []
 
+-- what a block answers by itself
 unfoldable pub blockAnswer : Format → Bool → ℕ → (ℕ → ℕ) → Answer
 blockAnswer F last k at = ladder (blockRules F last k at)
 
@@ -34,11 +35,13 @@ blocksRules F bytes (suc k) = blocksRules F bytes k ++ blockRules F (eqb (k + 1)
 unfoldable pub hasRoom : ℕ → ℕ → ℕ → Bool
 hasRoom need room slots = leb need room && leb 1 slots
 
+-- of a file: 40, the blocks one after the other, and 45 after them all
 abbrev pub fileRules : Format → List ℕ → ℕ → ℕ → List Rule
 fileRules F bytes room slots =
     isWhole F (length bytes) else NotBlocks ∷
     blocksRules F bytes (blocksIn bytes) ++ (hasRoom (rowsOf F bytes * F .words) room slots else NoRoom ∷ [])
 
+-- what reading a file answers
 unfoldable pub fileAnswer : Format → List ℕ → ℕ → ℕ → Answer
 fileAnswer F bytes room slots = ladder (fileRules F bytes room slots)
 
@@ -46,6 +49,7 @@ fileAnswer F bytes room slots = ladder (fileRules F bytes room slots)
 unfoldable pub isRows : Format → List ℕ → Bool
 isRows F plan = eqb (length plan % F .words) 0 && leb (rowsIn F plan) mostJobs
 
+-- what writing a plan answers: 21, then 45
 unfoldable pub writeAnswer : Format → List ℕ → ℕ → ℕ → Answer
 writeAnswer F plan room slots =
     ladder (isRows F plan else BadPlan ∷ hasRoom (imageSize F plan) room slots else NoRoom ∷ [])

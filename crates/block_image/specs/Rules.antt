@@ -32,7 +32,8 @@ isCheck at = eqb (word32 at 508) (checkOf at)
 abbrev pub isIndex : ℕ → (ℕ → ℕ) → Bool
 isIndex k at = eqb (word32 at 0) k
 
--- 43: "rows used wrong or 1,024 jobs passed": none, more than a block holds, or fewer in a block that is not the last
+-- 43: "rows used wrong or 1,024 jobs passed": none, more than a block holds, or fewer in a block that is not the last; or, with those of the full blocks
+-- before it, more than 1,024
 unfoldable pub isUsed : Format → Bool → ℕ → ℕ → Bool
 isUsed F last k used = leb 1 used && leb used (F .rows) && (last || eqb used (F .rows)) && leb (k * F .rows + used) mostJobs
 

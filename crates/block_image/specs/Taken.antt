@@ -1,9 +1,8 @@
 -- What bytes that are accepted hold (document 02, request (iv)).
-use Prim.Native.Nat.{ℕ, _+_, _-_, _*_, _/_, _%_}
+use Prim.Native.Nat.{ℕ, _+_, _-_, _*_, _/_, _%_, _<_}
 use mathlib.Core.Bool.{Bool, true, cond, _&&_}
 use mathlib.Core.List.{List}
 use mathlib.Core.Path.{_≡_}
-use Prim.Native.Nat.{_<_}
 use lib.Dec.{eqb}
 use lib.ListN.{length}
 use Rattle.lists.specs.Fill.{tab}
@@ -38,6 +37,7 @@ rowsOf F bytes = rowsTo F bytes (blocksIn bytes)
 abbrev pub wordIn : ℕ → ℕ → List ℕ → ℕ → ℕ
 wordIn area lead bytes i = word16 (blockBytes bytes (i / area)) (lead + 2 * (i % area))
 
+-- and by the format's numbers
 abbrev pub wordAt : Format → List ℕ → ℕ → ℕ
 wordAt F bytes i = wordIn (F .rows * F .words) (8 + F .zeros) bytes i
 
