@@ -9,6 +9,7 @@
  *  - Calls share no memory of their own: several threads may call at once on slices that do not overlap.
  *
  * B is the block size: 4, 8, 16, 32 or 64. D is the bit depth: 8, 10 or 12. M = 2^D - 1.
+ * In latch_write_plan and latch_read_plan a block is 512 bytes of a plan's file.
  */
 #ifndef LATCHORCHARD_H
 #define LATCHORCHARD_H
@@ -43,7 +44,7 @@ enum latch_answer {
     LATCH_NOT_EACH_ONCE = 22,        /* the order does not hold each job's index once */
     LATCH_PAIR_TURNED = 23,          /* the order turns a clashing pair of jobs round */
     LATCH_NOT_BLOCKS = 40,           /* bytes that are not whole blocks of 512, or more than 69 blocks */
-    LATCH_BAD_CHECK = 41,            /* a block's check is not the sum of its other words */
+    LATCH_BAD_CHECK = 41,            /* a block's check is not the sum, modulo 2^32, of the 127 words before it */
     LATCH_OUT_OF_TURN = 42,          /* a block's index is not its place in the file */
     LATCH_BAD_USED = 43,             /* a block's count of rows is wrong, or passes 1024 jobs */
     LATCH_NOT_ZERO = 44,             /* a byte of a block that must be zero is not */
@@ -331,7 +332,7 @@ uint32_t latch_run(float *plane, size_t plane_len, size_t width, size_t height, 
  * of the 127 words of four bytes before it. All words are little-endian. All blocks but the last hold fifteen rows, and a plan
  * without a job has no blocks. The rows' words may be anything: no job is tested here.
  *
- * Writes 512 bytes a block to out, from its start on, and how many bytes that are to length[0].
+ * Writes 512 bytes a block to out, from its start on, and how many bytes these are to length[0].
  * Lent: plan, exactly 16 words a job; out, at least 512 bytes for every fifteen jobs or part of fifteen; length, at least one
  * entry.
  *
@@ -344,10 +345,11 @@ uint32_t latch_write_plan(const uint16_t *plan, size_t plan_len, uint8_t *out, s
 
 /* read_plan: the plan of such a file. A file is accepted only if it is exactly what latch_write_plan writes for the plan that it
  * holds. If one of its four-byte words is changed, and no other, it is refused by 41. What the format cannot tell: a file that has
- * lost blocks at its end is a shorter plan's file, and is accepted.
+ * lost blocks at its end is a shorter plan's file, and is accepted; and two changed words of a block whose sum stays the same pass
+ * 41, so that such a file may be accepted as another plan's.
  *
  * Writes 16 words a job to plan, from its start on, and how many jobs these are to rows[0].
- * Lent: bytes, exactly the file; plan, at least 16 words a job of it; rows, at least one entry.
+ * Lent: bytes, exactly the file; plan, at least 16 words for each of its jobs; rows, at least one entry.
  *
  * Refusals, in the order of checking:
  *   40  bytes_len is not a multiple of 512 or is above 512 x 69

@@ -1,4 +1,5 @@
-/* block_bytes.c: a plan's file byte by byte, with numbers and checks worked out by hand, and files read back as their plans. */
+/* block_bytes.c: a plan's file byte by byte, with numbers and checks worked out by hand; files read back as their plans; empty files;
+ * any one byte changed. */
 #include <string.h>
 
 #include "image.h"

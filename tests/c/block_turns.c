@@ -1,9 +1,10 @@
-/* block_turns.c: latch_read_plan goes block by block: of faults in two blocks the earlier block's is told, whatever it is. */
+/* block_turns.c: latch_read_plan goes block by block: of faults in two blocks the earlier block's is told, whatever it is, and of two
+ * in one block the smaller number. */
 #include "image.h"
 
 enum { BLOCKS = 3, ROWS = 33, KINDS = 2 };
 
-/* Puts a fault into a block, of which 41 to 44 tells the number; 42 to 44 with the check made right. */
+/* Puts into a block the fault that `number`, 41 to 44, refuses; for 42 to 44 the check is then made right. */
 static void spoil(uint8_t *block, uint32_t number, int kind) {
     switch (number) {
     case LATCH_BAD_CHECK: block[kind ? CHECK_AT + 3 : ROWS_AT] ^= 0x80; return;

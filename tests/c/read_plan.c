@@ -49,7 +49,7 @@ static const struct fault of_head[] = {
 
 /* By where the changed block stands: first, second or last of three, alone, or last of 69. */
 #define PICKED(number, pick) {"blocks of pick " #pick, number, {{PICK, pick}}, BIT(INDEX_MORE)}
-#define NOT_ZERO(at, is) {"an unused row's byte " #at, LATCH_NOT_ZERO, {{ZERO_AT, at}, {ZERO_IS, is}}, 0}
+#define NOT_ZERO(at, is) {"a byte that must be zero, " #at, LATCH_NOT_ZERO, {{ZERO_AT, at}, {ZERO_IS, is}}, 0}
 static const struct fault of_first[] = {
     PICKED(LATCH_OUT_OF_TURN, 1), PICKED(LATCH_OUT_OF_TURN, 2), PICKED(LATCH_OUT_OF_TURN, 3), PICKED(LATCH_OUT_OF_TURN, 4),
     {"14 used", LATCH_BAD_USED, {{USED, 14}}, 0}, {"1 used", LATCH_BAD_USED, {{USED, 1}}, 0},
@@ -76,7 +76,7 @@ static const struct fault of_largest[] = {
     NOT_ZERO(ROWS_AT + 4 * ROW_BYTES, 1), NOT_ZERO(CHECK_AT - 1, 1), NOT_ZERO(ZEROS_AT, 1), NOT_ZERO(ROWS_AT - 1, 1),
 };
 
-/* Each word of a block changed, with its check left as it is, and each of the twenty bytes that must be zero. */
+/* Each word of a block changed, the check among them, and not made right again; and each of the twenty bytes that must be zero. */
 static struct faults of_places(void) {
     enum { WORDS = LATCH_BLOCK_BYTES / 4, ZEROS = ROWS_AT - ZEROS_AT };
     static struct fault rows[WORDS + ZEROS];

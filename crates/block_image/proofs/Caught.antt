@@ -87,7 +87,7 @@ module _ (F : Format) (fit : Fits F) (bytes bytes′ : List ℕ) (small : (i : �
       (λ e. differs (sym (ap (λ (x : ℕ). getD bytes x 0) z) ∙ sym of ∙ ap (λ (x : ℕ). byteOf x b) e ∙ of′ ∙ ap (λ (x : ℕ). getD bytes′ x 0) z))
       (λ x h. same x (λ (e : x ≡ i). ⊎-elim (λ (p : x < 512 * k + 4 * j). omega arith) (λ (p : 512 * k + 4 * j + 4 ≤ x). omega arith) h))
 
--- two accepted files of one plan are one file: a change that is accepted, its check mended, makes another plan's image
+-- two accepted files that hold one plan are equal: so a changed file whose check was made right, if it is accepted, holds another plan
 pub one-file : (F : Format) → Fits F → (bytes bytes′ : List ℕ) → ((i : ℕ) → getD bytes i 0 < 256) → ((i : ℕ) → getD bytes′ i 0 < 256)
     → WholeFile F bytes → WholeFile F bytes′ → planOf F bytes ≡ planOf F bytes′ → bytes ≡ bytes′
 one-file F fit bytes bytes′ small small′ a a′ e = sym (one-image F fit bytes small a) ∙ ap (image F) e ∙ one-image F fit bytes′ small′ a′

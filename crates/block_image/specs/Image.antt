@@ -1,5 +1,5 @@
 -- The bytes of a plan: "blocks of 512 bytes: block index (4 bytes, little-endian), rows used 1 to 15 (4), twenty zero bytes, fifteen rows of 32 bytes with
--- unused ones zero, and last a check" (document 02, request (iv)). A format says how many rows, words and zero bytes; those are request (iv)'s.
+-- unused ones zero, and last a check" (document 02, request (iv)). A format has these numbers, and how many blocks there are at most.
 use Prim.Native.Nat.{ℕ, _+_, _-_, _*_, _/_, _%_, min}
 use mathlib.Core.Bool.{cond}
 use mathlib.Core.List.{List}
@@ -45,9 +45,10 @@ blockByte F plan k b = cond (ltb b 508) (bodyByte F plan k b) (byteOf (checkOf (
 abbrev pub imageByte : Format → List ℕ → ℕ → ℕ
 imageByte F plan i = blockByte F plan (i / 512) (i % 512)
 
--- "One plan has one byte image"
+-- how many bytes the file has
 abbrev pub imageSize : Format → List ℕ → ℕ
 imageSize F plan = 512 * blocksFor F (rowsIn F plan)
 
+-- "One plan has one byte image"
 unfoldable pub image : Format → List ℕ → List ℕ
 image F plan = tab (imageSize F plan) (imageByte F plan)

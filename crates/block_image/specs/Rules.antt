@@ -1,4 +1,4 @@
--- What is tested of bytes that are read (document 02, request (iv)): "per block in that order, 40 first and 45 last".
+-- The tests of bytes that are read, 40 to 44 (document 02, request (iv)), each by itself; their order, and 45, are in Refusals.
 use Prim.Native.Nat.{ℕ, zero, suc, _+_, _-_, _*_, _/_, _%_}
 use mathlib.Core.Bool.{Bool, true, _&&_, _||_}
 use mathlib.Core.List.{List}

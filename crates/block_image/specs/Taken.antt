@@ -1,4 +1,4 @@
--- What bytes that are accepted hold (document 02, request (iv)).
+-- When bytes are accepted, and what they then hold (document 02, request (iv)).
 use Prim.Native.Nat.{ℕ, _+_, _-_, _*_, _/_, _%_, _<_}
 use mathlib.Core.Bool.{Bool, true, cond, _&&_}
 use mathlib.Core.List.{List}

@@ -1,4 +1,4 @@
-// Little-endian words (document 02, request (iv)), at a place that is told from o on.
+// Little-endian words of a list of bytes (document 02, request (iv)); place i is counted from place o.
 ghost use mathlib.Core.Path.{_≡_};
 ghost use Prim.Native.Nat.{_+_, _*_, _≤_};
 ghost use lib.ListN.{length};

@@ -1,5 +1,5 @@
 // Reads a plan's file from standard input and prints "a line a job, its index and sixteen words in decimal, one space between, or else only the refusal
-// number" (document 02, request (iv)). What text a file has is `page`'s promise. Nothing is printed before the whole file is read and accepted.
+// number" (document 02, request (iv)). What text a file has is `page`'s promise. Nothing is printed before the whole file is read and tested.
 mod room;
 
 use libc::STDERR_FILENO;
@@ -25,7 +25,7 @@ fn is_ended() -> bool {
     libc::read(STDIN_FILENO, &mut byte) == 0
 }
 
-// A full buffer is longer than any plan's file, and so is what it is the start of.
+// 65,536 bytes are more than any plan's file has: an input that fills the buffer is refused by 40, whatever follows.
 fn main() {
     let mut file = io::large_buffer();
     let n = io::read_full(STDIN_FILENO, &mut file);
