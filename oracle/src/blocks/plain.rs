@@ -1,4 +1,5 @@
-// plain.rs: a plan's file of 512-byte blocks, written and read by plain Rust from request (iv) of document 02 alone. The answers are its numbers.
+// plain.rs: a plan's file of 512-byte blocks, written and read by plain Rust that follows request (iv) of document 02 and shares nothing with the
+// library. The answers are the request's numbers.
 const BLOCK: usize = 512;
 const HEAD: usize = 28;
 const ROWS: usize = 15;
