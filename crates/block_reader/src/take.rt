@@ -1,4 +1,4 @@
-// The words of a file's rows, taken into a plan.
+// The words of a file's rows, taken into a plan (document 02, request (iv)).
 use block_words::bytes::word_16;
 ghost use mathlib.Core.Path.{_≡_};
 ghost use Prim.Native.Nat.{_+_, _*_, _≤_, _<_};

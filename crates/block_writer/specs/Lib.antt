@@ -1,2 +1,2 @@
--- A block as the code makes it: plumbing, nothing to be believed.
+-- A block as the code makes it: it serves the code, and nothing in it is to be believed.
 pub mod Made

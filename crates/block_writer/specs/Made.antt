@@ -1,4 +1,5 @@
--- A block as the code makes it, of its index, its count of rows and its words, which stand from place `lead` on. proofs/Made leads back to the image.
+-- A block as the code makes it, of its index, its count of rows and its words, which stand from place `lead` on. proofs/Image leads back to
+-- the image.
 use mathlib.Core.Path.{_≡_}
 use Prim.Native.Nat.{ℕ, _-_, _*_, _/_, _%_, _≤_}
 use mathlib.Core.Bool.{cond}

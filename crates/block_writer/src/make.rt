@@ -1,4 +1,4 @@
-// One block, made.
+// One block, made (document 02, request (iv)).
 use crate::put;
 use block_words::check::check_of;
 use block_words::check::sum_of;

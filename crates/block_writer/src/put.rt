@@ -1,4 +1,4 @@
-// Parts of a block, filled.
+// Parts of a block, filled (document 02, request (iv)).
 ghost use mathlib.Core.Path.{_≡_};
 ghost use Prim.Native.Nat.{_+_, _*_, _/_, _%_};
 ghost use lib.ListN.{length, getD};

@@ -1,4 +1,4 @@
--- The digits of a number below 100,000: as many as the kit's number is written with, and at most five. Assumes nothing.
+-- The digits of a number below 100,000: as many as the toolchain's `io::decimal` writes, and at most five. Assumes nothing.
 use mathlib.Core.Path.{_≡_, refl, _∙_, ap}
 use mathlib.Core.Bool.{Bool, true, false, cond}
 use mathlib.Core.List.{[], _∷_}
@@ -44,7 +44,7 @@ count-fewest n l =
     (λ (a : n < 10). rw (lt-ltb n 10 a) (omega arith, a, λ h. absurd (omega arith)))
     (either 10 n)
 
--- what the kit writes of n is n in decimal
+-- what `io::decimal` writes of n is n in decimal
 pub decimal-is : (n k : ℕ) → n < 100000 → Fewest 10 1 n k → digits 10 k n ≡ decimal n
 unfolding decimal
 decimal-is n k l f = ap (λ (m : ℕ). digits 10 m n) (fewest-same n k (digitsIn n) f (count-fewest n l))

@@ -1,4 +1,4 @@
--- `put_number` meets its contract: the kit's digits are the number's. Assumes nothing.
+-- `put_number` meets its contract: the digits of `io::decimal` are the number's. Assumes nothing.
 use borrow.Author.Needs.{needs}
 use mathlib.Core.Path.{_≡_, refl, _∙_}
 use Prim.Native.Nat.{_≤_}
