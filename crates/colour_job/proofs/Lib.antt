@@ -1,1 +1,3 @@
--- Laws.
+-- Laws of a colour job.
+pub mod Local
+pub mod NoThirteen

@@ -1,0 +1,3 @@
+-- Laws of three planes.
+pub mod Three
+pub mod Tall

@@ -1,0 +1,3 @@
+-- The rectangles of a tower's job are exact.
+pub mod Within
+pub mod Exact

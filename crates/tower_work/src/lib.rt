@@ -1,0 +1,1 @@
+// One job of a tower's run.
