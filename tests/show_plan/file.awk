@@ -1,6 +1,6 @@
-# file.awk: the file of a plan, made of the plan's lines by the text of requests (iv) and (v) alone: a line of output for each block of 512 bytes, each byte
-# as printf's backslash and three octal digits. -v rows, words and zeros are the format: the rows of a block, the words of a row and the zero bytes before
-# the rows. -v fault='BLOCK BYTE VALUE' sets a byte of a block before its check is made; several go with commas between.
+# file.awk: the file of a plan, made of the plan's lines by the text of requests (iv) and (v) alone: a line of output for each block of 512 bytes, each
+# byte as printf's backslash and three octal digits. -v rows, words and zeros are the format: the rows of a block, the words of a row and the zero bytes
+# before the rows. -v fault='BLOCK BYTE VALUE' sets a byte of a block before its check is made; several go with commas between.
 function put_block(    b, w, sum) {
     byte[0] = block % 256; byte[1] = int(block / 256); byte[4] = used
     for (b in faulty) {
