@@ -3,7 +3,6 @@
 mod line;
 pub mod pages;
 mod put;
-pub mod streams;
 
 use block_image::format::Format;
 ghost use mathlib.Core.Path.{_≡_};

@@ -3,14 +3,13 @@
 mod room;
 
 use libc::STDIN_FILENO;
-use plan_page::streams;
 
 // The page of a file.
 fn show(bytes: &[u8]) {
     let mut plan = room::plan();
     let mut text = room::text();
     let n = plan_page::page(bytes, &mut plan, &mut text);
-    streams::print(&text[..n]);
+    show_streams::print(&text[..n]);
 }
 
 // 65,536 bytes are more than any plan's file has: an input that fills the buffer is refused by 40, whatever follows.
@@ -18,8 +17,8 @@ fn main() {
     let mut file = io::large_buffer();
     let n = io::read_full(STDIN_FILENO, &mut file);
     if n < 65536 {
-        if !streams::is_ended() {
-            streams::tell_unread();
+        if !show_streams::is_ended() {
+            show_streams::tell_unread();
             return;
         }
     }

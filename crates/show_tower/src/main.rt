@@ -4,14 +4,13 @@
 mod room;
 
 use libc::STDIN_FILENO;
-use plan_page::streams;
 
 // The page of a file.
 fn show(bytes: &[u8]) {
     let mut plan = room::plan();
     let mut text = room::text();
     let n = plan_page::tower_page(bytes, &mut plan, &mut text);
-    streams::print(&text[..n]);
+    show_streams::print(&text[..n]);
 }
 
 // An input that fills the room for a file is refused by 40, whatever follows.
@@ -19,8 +18,8 @@ fn main() {
     let mut file = room::file();
     let n = io::read_full(STDIN_FILENO, &mut file);
     if n < 81920 {
-        if !streams::is_ended() {
-            streams::tell_unread();
+        if !show_streams::is_ended() {
+            show_streams::tell_unread();
             return;
         }
     }

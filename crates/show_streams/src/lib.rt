@@ -1,4 +1,4 @@
-// Standard input and output of the programs that print a page.
+// Standard input and output of the programs that print a plan's file, `show_plan` and `show_tower`.
 use libc::STDERR_FILENO;
 use libc::STDIN_FILENO;
 use libc::STDOUT_FILENO;
