@@ -7,6 +7,7 @@
 #include <stdint.h>
 
 #include "latchorchard.h"
+#include "latchtower.h"
 
 /* Counts one check; a failed one is printed. */
 void check(bool holds, const char *format, ...) __attribute__((format(printf, 2, 3)));

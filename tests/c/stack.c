@@ -1,10 +1,9 @@
-/* stack.c: runs of the largest blocks, and the largest plan's file, in a thread whose whole stack is 128 KiB: a call that needs
+/* stack.c: runs of the largest blocks, and the largest plans' files, in a thread whose whole stack is 128 KiB: a call that needs
  * more ends the test. */
 #define _POSIX_C_SOURCE 200809L
 #include <pthread.h>
 
 #include "check.h"
-#include "latchorchard.h"
 
 enum { SIDE = 512, ACROSS = 3, JOBS = ACROSS * ACROSS, BLOCK = 64, STACK = 128 * 1024 };
 
@@ -24,8 +23,8 @@ static const uint16_t kinds[JOBS][2] = {
 static float plane[SIDE * SIDE];
 static uint16_t plan[JOBS * LATCH_ROW_WORDS], order[JOBS], answers[JOBS];
 static int16_t differences[BLOCK * BLOCK];
-static uint16_t rows[LATCH_JOBS_MOST * LATCH_ROW_WORDS];
-static uint8_t file[LATCH_BLOCKS_MOST * LATCH_BLOCK_BYTES];
+static uint16_t rows[LATCH_JOBS_MOST * LATCH_ROW_WORDS], tower_rows[LATCH_JOBS_MOST * TOWER_ROW_WORDS];
+static uint8_t file[LATCH_BLOCKS_MOST * LATCH_BLOCK_BYTES], tower_file[TOWER_BLOCKS_MOST * LATCH_BLOCK_BYTES];
 
 /* Jobs that stand apart, so that they may be run backwards: that order is walked and each row compared. */
 static void make_plan(void) {
@@ -55,6 +54,8 @@ static void *in_thread(void *number) {
     size_t count[1];
     *(uint32_t *)number |= latch_write_plan(rows, COUNT(rows), file, COUNT(file), count, 1);
     *(uint32_t *)number |= latch_read_plan(file, COUNT(file), rows, COUNT(rows), count, 1);
+    *(uint32_t *)number |= tower_write_plan(tower_rows, COUNT(tower_rows), tower_file, COUNT(tower_file), count, 1);
+    *(uint32_t *)number |= tower_read_plan(tower_file, COUNT(tower_file), tower_rows, COUNT(tower_rows), count, 1);
     return NULL;
 }
 

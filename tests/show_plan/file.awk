@@ -1,5 +1,6 @@
-# file.awk: the file of a plan, made of the plan's lines by request (iv)'s text alone: a line of output for each block of 512 bytes, each byte as printf's
-# backslash and three octal digits. -v fault='BLOCK BYTE VALUE' sets a byte of a block before its check is made; several go with commas between.
+# file.awk: the file of a plan, made of the plan's lines by the text of requests (iv) and (v) alone: a line of output for each block of 512 bytes, each
+# byte as printf's backslash and three octal digits. -v rows, words and zeros are the format: the rows of a block, the words of a row and the zero bytes
+# before the rows. -v fault='BLOCK BYTE VALUE' sets a byte of a block before its check is made; several go with commas between.
 function put_block(    b, w, sum) {
     byte[0] = block % 256; byte[1] = int(block / 256); byte[4] = used
     for (b in faulty) {
@@ -23,10 +24,11 @@ function put_block(    b, w, sum) {
 }
 BEGIN { split(fault, faulty, ","); block = 0; used = 0; for (b = 0; b < 512; b++) byte[b] = 0 }
 {
-    for (j = 0; j < 16; j++) {
-        byte[28 + 32 * used + 2 * j] = $(j + 2) % 256
-        byte[28 + 32 * used + 2 * j + 1] = int($(j + 2) / 256)
+    at = 8 + zeros + 2 * words * used
+    for (j = 0; j < words; j++) {
+        byte[at + 2 * j] = $(j + 2) % 256
+        byte[at + 2 * j + 1] = int($(j + 2) / 256)
     }
-    if (++used == 15) put_block()
+    if (++used == rows) put_block()
 }
 END { if (used) put_block() }

@@ -1,4 +1,4 @@
--- Request (iv)'s numbers fit, and what follows from that. Assumes nothing.
+-- The numbers of requests (iv) and (v) fit, and what follows from that. Assumes nothing.
 use mathlib.Core.Path.{_≡_, refl, ap}
 use mathlib.Core.Bool.{true}
 use Prim.Native.Nat.{ℕ, _+_, _-_, _*_, _/_, _%_, _≤_}
@@ -9,11 +9,14 @@ use Rattle.block_image.specs.Rules.{isWhole}
 use native.Mathlib.Nat.{mul-le-mul-left, mul-le-mul-right}
 use native.Mathlib.Omega.{arith}
 use Rattle.block_image.specs.Fits.{Fits}
-use Rattle.block_image.specs.Image.{planFormat}
+use Rattle.block_image.specs.Image.{planFormat, towerFormat}
 use Rattle.block_image.specs.declared.format.Format.{Format}
 
 pub plan-fits : Fits planFormat
 plan-fits = record { fills = refl; some-rows = omega arith; some-words = omega arith; reach = omega arith; few = omega arith }
+
+pub tower-fits : Fits towerFormat
+tower-fits = record { fills = refl; some-rows = omega arith; some-words = omega arith; reach = omega arith; few = omega arith }
 
 -- used and unused rows
 pub rows-apart : (F : Format) (used : ℕ) → used ≤ F .rows → used * F .words + (F .rows - used) * F .words ≡ F .rows * F .words

@@ -1,5 +1,5 @@
 -- What a format's numbers must be: its rows, at least one, and of at least one word, fill a block; its blocks hold every plan, and are at most 1,024.
--- That request (iv)'s are so is shown in proofs/Fits.
+-- That those of requests (iv) and (v) are so is shown in proofs/Fits.
 use mathlib.Core.Path.{_≡_}
 use Prim.Native.Nat.{_+_, _*_, _<_, _≤_}
 use Rattle.numbers.specs.Limits.{mostJobs}

@@ -14,6 +14,10 @@ use Rattle.block_image.specs.declared.format.Format.{Format}
 abbrev pub planFormat : Format
 planFormat = record { rows = 15; words = rowWords; zeros = 20; most = 69 }
 
+-- those of request (v): "seven rows of 64 bytes after fifty-two zero bytes, 147 blocks at most"
+abbrev pub towerFormat : Format
+towerFormat = record { rows = 7; words = 32; zeros = 52; most = 147 }
+
 -- the rows of a plan
 abbrev pub rowsIn : Format → List ℕ → ℕ
 rowsIn F plan = length plan / F .words

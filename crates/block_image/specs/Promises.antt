@@ -2,6 +2,7 @@
 use mathlib.Core.List.{List}
 use Prim.Native.Nat.{ℕ, _*_}
 use lib.ListN.{length}
+use Rattle.numbers.specs.Answer.{answerNumber}
 use Rattle.numbers.specs.declared.answer.Answer.{Answer}
 use Rattle.refusals.specs.Promise.{lent, Promise}
 use Rattle.lists.specs.Fill.{filled}
@@ -43,3 +44,12 @@ answerWrite F plan before = writeAnswer F plan (length (before .list)) (length (
 -- `write_plan`: its answer, and both outputs afterwards
 abbrev pub WritePlan : Format → List ℕ → Outputs → Outputs → Answer → Type 0
 WritePlan F plan before after r = Promise (answerWrite F plan before) (lent (answerWrite F plan before) (put F plan before) before) r after
+
+-- both with the answer's number in the answer's place, as C is answered
+abbrev pub ReadPlanC : Format → List ℕ → Outputs → Outputs → ℕ → Type 0
+ReadPlanC F bytes before after r =
+    Promise (answerNumber (answerRead F bytes before)) (lent (answerRead F bytes before) (taken F bytes before) before) r after
+
+abbrev pub WritePlanC : Format → List ℕ → Outputs → Outputs → ℕ → Type 0
+WritePlanC F plan before after r =
+    Promise (answerNumber (answerWrite F plan before)) (lent (answerWrite F plan before) (put F plan before) before) r after

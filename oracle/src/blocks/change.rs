@@ -1,9 +1,8 @@
 // change.rs: changes to a plan's file: its length, its blocks' order, and every part of a block, with its check mended or not.
-use crate::blocks::plain;
+use crate::blocks::plain::{self, Format};
 use crate::random::Random;
 
 pub const BLOCK: usize = 512;
-const ROWS_AT: usize = 28;
 const CHECK_AT: usize = 508;
 
 fn put(block: &mut [u8], at: usize, word: u32) {
@@ -34,29 +33,29 @@ fn near(random: &mut Random, was: u32) -> u32 {
 }
 
 /// Says how many rows a block uses: too few, too many, or another count that may be right.
-fn use_rows(random: &mut Random, block: &mut [u8]) {
-    let other = near(random, word(block, 4));
-    let used = random.pick(&[other, other, 0, 1, 14, 15, 16, 17, u32::MAX, 1 << 31]);
+fn use_rows<F: Format>(random: &mut Random, block: &mut [u8]) {
+    let (other, full) = (near(random, word(block, 4)), F::ROWS as u32);
+    let used = random.pick(&[other, other, 0, 1, full - 1, full, full + 1, full + 2, u32::MAX, 1 << 31]);
     put(block, 4, used);
-    if (1..15).contains(&used) && random.once_in(2) {
-        block[ROWS_AT + 32 * used as usize..CHECK_AT].fill(0);
+    if (1..full).contains(&used) && random.once_in(2) {
+        block[F::LEAD + 2 * F::WORDS * used as usize..CHECK_AT].fill(0);
     }
 }
 
 /// Changes a part of a block, but not its check.
-fn part(random: &mut Random, block: &mut [u8]) {
+fn part<F: Format>(random: &mut Random, block: &mut [u8]) {
     let any = 1 + random.below(255) as u8;
     let byte = random.pick(&[1, 128, 255, any]);
     match random.below(6) {
         0 => put(block, 0, near(random, word(block, 0))),
-        1 => use_rows(random, block),
-        2 => block[8 + random.below(20)] ^= byte,
+        1 => use_rows::<F>(random, block),
+        2 => block[8 + random.below(F::ZEROS)] ^= byte,
         3 => {
-            let unused = ROWS_AT + 32 * word(block, 4).min(14) as usize;
+            let unused = F::LEAD + 2 * F::WORDS * (word(block, 4) as usize).min(F::ROWS - 1);
             let any = unused + random.below(CHECK_AT - unused);
-            block[random.pick(&[unused, unused + 31, CHECK_AT - 1, any, any])] ^= byte;
+            block[random.pick(&[unused, unused + 2 * F::WORDS - 1, CHECK_AT - 1, any, any])] ^= byte;
         }
-        4 => block[ROWS_AT + random.below(CHECK_AT - ROWS_AT)] ^= byte,
+        4 => block[F::LEAD + random.below(CHECK_AT - F::LEAD)] ^= byte,
         _ => {
             // two words, whose sum stays
             let (one, two) = (4 * random.below(127), 4 * random.below(127));
@@ -67,10 +66,10 @@ fn part(random: &mut Random, block: &mut [u8]) {
 }
 
 /// Any bytes, with a right index and count at times.
-fn garbage(random: &mut Random, block: &mut [u8]) {
-    let head = block[..ROWS_AT].to_vec();
+fn garbage<F: Format>(random: &mut Random, block: &mut [u8]) {
+    let head = block[..F::LEAD].to_vec();
     block.chunks_exact_mut(8).for_each(|to| to.copy_from_slice(&random.next().to_le_bytes()));
-    let kept = random.pick(&[0, 4, 8, ROWS_AT]);
+    let kept = random.pick(&[0, 4, 8, F::LEAD]);
     block[..kept].copy_from_slice(&head[..kept]);
 }
 
@@ -104,7 +103,7 @@ fn reorder(random: &mut Random, image: &mut Vec<u8>) {
 }
 
 /// One change of any kind.
-pub fn any(random: &mut Random, image: &mut Vec<u8>) {
+pub fn any<F: Format>(random: &mut Random, image: &mut Vec<u8>) {
     let blocks = image.len() / BLOCK;
     let kind = random.below(16);
     if blocks == 0 || kind == 0 {
@@ -118,8 +117,8 @@ pub fn any(random: &mut Random, image: &mut Vec<u8>) {
     match kind {
         4 => block[random.below(BLOCK)] ^= 1 + random.below(255) as u8,
         5 => put(block, 4 * random.below(128), random.next() as u32),
-        6 => garbage(random, block),
-        _ => part(random, block),
+        6 => garbage::<F>(random, block),
+        _ => part::<F>(random, block),
     }
     if kind > 5 && !random.once_in(6) {
         mend(block);

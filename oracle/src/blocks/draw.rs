@@ -1,13 +1,13 @@
 // draw.rs: draws plans of any words, and the room that a call is lent for what it writes.
+use crate::blocks::plain::Format;
 use crate::random::Random;
 
-pub const WORDS: usize = 16;
-
 /// How many rows a plan has: most often few, and then often about whole blocks.
-pub fn rows(random: &mut Random) -> usize {
+pub fn rows<F: Format>(random: &mut Random) -> usize {
+    let (one, two) = (F::ROWS, 2 * F::ROWS);
     match random.below(16) {
         0 => 0,
-        1..=3 => random.pick(&[14, 15, 16, 29, 30, 31]),
+        1..=3 => random.pick(&[one - 1, one, one + 1, two - 1, two, two + 1]),
         4 => 30 + random.below(70),
         _ => 1 + random.below(40),
     }
@@ -30,11 +30,11 @@ pub fn words(random: &mut Random, len: usize) -> Vec<u16> {
 }
 
 /// Room for what needs `needed` entries: exact, short, longer or none.
-pub fn room(random: &mut Random, needed: usize) -> usize {
+pub fn room<F: Format>(random: &mut Random, needed: usize) -> usize {
     match random.below(16) {
         0 => needed.saturating_sub(1),
         1 => needed + random.pick(&[1, 1, 2, 16, 100]),
-        2 => random.pick(&[0, needed / 2, needed.saturating_sub(WORDS)]),
+        2 => random.pick(&[0, needed / 2, needed.saturating_sub(F::WORDS)]),
         _ => needed,
     }
 }

@@ -1,16 +1,16 @@
 // hold.rs: a write and a read of a plan's file, held against the plain ones: the answer, what is written, and all that was lent.
-use crate::blocks::{calls, plain};
+use crate::blocks::calls::Calls;
+use crate::blocks::plain;
 use crate::plan::guarded::Guarded;
 use crate::random::Random;
 use crate::tally::Tally;
+use std::marker::PhantomData;
 
-/// The longest lists that are lent.
-const MOST_WORDS: usize = 18_000;
-const MOST_BYTES: usize = 72 * 512;
 /// What a list for a count holds before a call.
 const COUNTS: [usize; 3] = [0xA5C3_0001, usize::MAX, 0xA5C3_0003];
 
-pub struct Comparison {
+pub struct Comparison<F: Calls> {
+    format: PhantomData<F>,
     seed: u64,
     number: u64,
     /// What is being tried.
@@ -48,19 +48,22 @@ fn counted(plain: Result<usize, u32>, entries: usize) -> (u32, Vec<usize>) {
     }
 }
 
-impl Comparison {
-    pub fn new(seed: u64) -> Comparison {
+impl<F: Calls> Comparison<F> {
+    /// Images are numbered from `first` on. The longest lists that are lent have the words and bytes of a file three blocks too long.
+    pub fn new(seed: u64, first: u64) -> Comparison<F> {
+        let blocks = F::MOST + 3;
         Comparison {
+            format: PhantomData,
             seed,
-            number: 9 << 40,
+            number: first,
             about: "",
             plan: Guarded::new(|i| 0xA5C3 ^ (i as u16).wrapping_mul(0x9E37)),
             bytes: Guarded::new(|i| 0xA5 ^ (i as u8).wrapping_mul(0x37)),
             counts: Guarded::new(|i| 0xA5C3_0000 ^ i.wrapping_mul(0x9E37_79B1)),
-            blank_words: (0..MOST_WORDS).map(|i| 0x5A3C ^ (i as u16).wrapping_mul(0x9E37)).collect(),
-            blank_bytes: (0..MOST_BYTES).map(|i| 0x5A ^ (i as u8).wrapping_mul(0x9D)).collect(),
-            writes: Tally::new("latch_write_plan"),
-            reads: Tally::new("latch_read_plan"),
+            blank_words: (0..blocks * F::ROWS * F::WORDS).map(|i| 0x5A3C ^ (i as u16).wrapping_mul(0x9E37)).collect(),
+            blank_bytes: (0..blocks * 512).map(|i| 0x5A ^ (i as u8).wrapping_mul(0x9D)).collect(),
+            writes: Tally::new(F::WRITE),
+            reads: Tally::new(F::READ),
             images: 0,
         }
     }
@@ -74,13 +77,13 @@ impl Comparison {
     /// Writes a plan to `room` bytes, with so many entries for the length; the answer.
     pub fn write(&mut self, plan: &[u16], room: usize, entries: usize) -> u32 {
         let mut bytes = self.blank_bytes[..room].to_vec();
-        let (number, counts) = counted(plain::write(plan, &mut bytes), entries);
+        let (number, counts) = counted(plain::write::<F>(plan, &mut bytes), entries);
         if number != 0 {
             bytes.copy_from_slice(&self.blank_bytes[..room]);
         }
         let (out, length) = (self.bytes.lend(&self.blank_bytes[..room]), self.counts.lend(&COUNTS[..entries]));
-        let got = calls::write_plan(self.plan.lend(plan), out, length);
-        self.hold("latch_write_plan", got, Due { number, plan, bytes: &bytes, counts: &counts });
+        let got = F::write_plan(self.plan.lend(plan), out, length);
+        self.hold(F::WRITE, got, Due { number, plan, bytes: &bytes, counts: &counts });
         self.writes.add(number);
         number
     }
@@ -88,19 +91,19 @@ impl Comparison {
     /// Reads an image into `room` words, with so many entries for the rows; the answer. One that is taken is written again.
     pub fn read(&mut self, image: &[u8], room: usize, entries: usize) -> u32 {
         let mut plan = self.blank_words[..room].to_vec();
-        let (number, counts) = counted(plain::read(image, &mut plan), entries);
+        let (number, counts) = counted(plain::read::<F>(image, &mut plan), entries);
         if number != 0 {
             plan.copy_from_slice(&self.blank_words[..room]);
         }
         let (words, rows) = (self.plan.lend(&self.blank_words[..room]), self.counts.lend(&COUNTS[..entries]));
-        let got = calls::read_plan(self.bytes.lend(image), words, rows);
-        self.hold("latch_read_plan", got, Due { number, plan: &plan, bytes: image, counts: &counts });
+        let got = F::read_plan(self.bytes.lend(image), words, rows);
+        self.hold(F::READ, got, Due { number, plan: &plan, bytes: image, counts: &counts });
         self.reads.add(number);
         self.images += 1;
         if number == 0 {
-            let read = self.plan.again()[..counts[0] * 16].to_vec();
+            let read = self.plan.again()[..counts[0] * F::WORDS].to_vec();
             if self.write(&read, image.len(), 1) != 0 || self.bytes.again() != image {
-                self.fail("latch_write_plan", "what was read of an image is not written as that image".to_string());
+                self.fail(F::WRITE, "what was read of an image is not written as that image".to_string());
             }
         }
         number
