@@ -32,15 +32,6 @@ pub record Walked (clash : ℕ → ℕ → Bool) (n : ℕ) (order : List ℕ) (N
   pub ran : (a : ℕ) → a < k → Noted (entry order a)
   pub rest : (a : ℕ) → k ≤ a → a < n → Blank (entry order a)
 
-pub walked-none : (clash : ℕ → ℕ → Bool) (n : ℕ) (order : List ℕ) (Noted Blank : ℕ → Type 0) → ((j : ℕ) → Blank j) → Walked clash n order Noted Blank 0 0
-walked-none clash n order Noted Blank blank = record {
-  above = λ a h. absurd (omega arith);
-  within = omega arith;
-  pairs = λ a b h k. absurd (omega arith);
-  ran = λ a h. absurd (omega arith);
-  rest = λ a h k. blank (entry order a);
-}
-
 module _ (clash : ℕ → ℕ → Bool) (turned : (i j : ℕ) → clash i j ≡ clash j i) (n : ℕ) (order : List ℕ) (once : Once n order) where
   fresh : Fresh n order
   fresh = fresh-of-once n order once
@@ -51,6 +42,16 @@ module _ (clash : ℕ → ℕ → Bool) (turned : (i j : ℕ) → clash i j ≡ 
       let p = pairs-decide clash n (λ i j. clash i j ≡ true) (λ i j h k. (λ e. e, λ e. e)) order in
       let q = pairs-at (λ i j. clash i j ≡ true) (λ i j e. turned j i ∙ e) n order once in
       (λ e. q .0 (p .0 e), λ h. p .1 (q .1 h))
+
+  -- none is passed
+  pub walked-none : (Noted Blank : ℕ → Type 0) → ((j : ℕ) → j < n → Blank j) → Walked clash n order Noted Blank 0 0
+  walked-none Noted Blank blank = record {
+    above = λ a h. absurd (omega arith);
+    within = omega arith;
+    pairs = λ a b h k. absurd (omega arith);
+    ran = λ a h. absurd (omega arith);
+    rest = λ a h k. blank (entry order a) (fresh .below a k);
+  }
 
   module _ (Noted Blank : ℕ → Type 0) (k top : ℕ) (s : Walked clash n order Noted Blank k top) where
     -- a row has run or it has not
