@@ -40,7 +40,13 @@ module _ (A : Rect) (f : ℕ → Rect) where
 
   none-of : ((k : ℕ) → 1 ≤ k → k < 6 → ¬ (meetB A (f k) ≡ true)) → meetAnyB A five ≡ false
   unfolding meetAnyB
-  none-of n = rw (off 1 (omega arith) (omega arith), off 2 (omega arith) (omega arith), off 3 (omega arith) (omega arith), off 4 (omega arith) (omega arith), off 5 (omega arith) (omega arith))
+  none-of n = rw (
+    off 1 (omega arith) (omega arith),
+    off 2 (omega arith) (omega arith),
+    off 3 (omega arith) (omega arith),
+    off 4 (omega arith) (omega arith),
+    off 5 (omega arith) (omega arith),
+  )
     where
       off : (k : ℕ) → 1 ≤ k → k < 6 → meetB A (f k) ≡ false
       off k l h = not-so _ (n k l h)

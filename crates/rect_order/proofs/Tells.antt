@@ -16,7 +16,8 @@ pub tells-one : (P : ℕ → Type 0) (from to j : ℕ) → from ≤ j → j < to
 tells-one P from to j l m h = record { some = λ e. (j, l, m, h); none = λ e. absurd (true≢false e) }
 
 -- one of two kinds of things, of which the first is not there
-pub tells-either : (P Q : ℕ → Type 0) (from to : ℕ) (p q : Bool) → p ≡ false → Tells P from to p → Tells Q from to q → Tells (λ j. P j ⊎ Q j) from to q
+pub tells-either : (P Q : ℕ → Type 0) (from to : ℕ) (p q : Bool) → p ≡ false → Tells P from to p → Tells Q from to q
+    → Tells (λ j. P j ⊎ Q j) from to q
 tells-either P Q from to p q e t u = record {
   some = λ f. let s = u .some f in (s .0, s .1, s .2, inr (s .3));
   none = λ f j a b. ⊎-elim (t .none e j a b) (u .none f j a b);
@@ -24,7 +25,8 @@ tells-either P Q from to p q e t u = record {
 
 module _ (P : ℕ → Type 0) (from p : ℕ) where
   -- one place more
-  pub tells-more : (hit here : Bool) → from ≤ p → (here ≡ true → P p) → (here ≡ false → ¬ (P p)) → Tells P from p hit → Tells P from (p + 1) (hit || here)
+  pub tells-more : (hit here : Bool) → from ≤ p → (here ≡ true → P p) → (here ≡ false → ¬ (P p)) → Tells P from p hit
+      → Tells P from (p + 1) (hit || here)
   tells-more true here l yes-here not-here t =
       let s = t .some refl in
       tells-one P from (p + 1) (s .0) (s .1) (omega (arith, s .2)) (s .3)

@@ -45,7 +45,7 @@ module _ (table : List ℤ) (order : List ℕ) (t : Tabled table order) where
           (λ c. struck-clashes table columns _ _ c (q .3)) (λ c. not-struck table columns _ _ c (q .3))
 
       -- none does, and the row is entered
-      pub in-walk-more : r ≡ false → (columns′ : List ℤ) → Entered table columns columns′ (entry order k)
+      pub in-walk-more : r ≡ false → (columns′ : List ℤ) → Entered table columns columns′ (entry order k) 24
           → InWalk table order columns′ (k + 1) (max top (entry order k + 1))
       in-walk-more e columns′ n =
           walked-more (clashIn table) (clash-turned table) (length order) order once _ _ k top s (InColumns table columns′) (NotInColumns columns′) h

@@ -1,5 +1,5 @@
--- The columns that an order is tested with: the table's numbers in 24 parts of 1,024, one for each place in a row, so that a rectangle of many rows is
--- compared at a time. A row that has not run has zeros. And what a search of them finds out.
+-- The columns that an order is tested with (refusal 23, document 01, Refusal numbers): the table's numbers in 24 parts of 1,024, one for each place
+-- in a row, so that many rows are compared at a time. A row that has not run has zeros. And what a search of them finds out.
 use mathlib.Core.Path.{_≡_}
 use mathlib.Core.Logic.{_⊎_, _≢_}
 use mathlib.Core.Bool.{Bool, true, false}
@@ -42,9 +42,9 @@ rectAt columns p =
     (getD columns (2048 + p) (pos 0))
     (getD columns (3072 + p) (pos 0))
 
--- row i of the table is entered
-pub record Entered (table columns columns′ : List ℤ) (i : ℕ) : Type 0 where
-  pub here : (m : ℕ) → m < 24 → getD columns′ (1024 * m + i) (pos 0) ≡ getD table (24 * i + m) (pos 0)
+-- the first n numbers of row i of the table are entered
+pub record Entered (table columns columns′ : List ℤ) (i n : ℕ) : Type 0 where
+  pub here : (m : ℕ) → m < n → getD columns′ (1024 * m + i) (pos 0) ≡ getD table (24 * i + m) (pos 0)
   pub other : (m j : ℕ) → j < 1024 → j ≢ i → getD columns′ (1024 * m + j) (pos 0) ≡ getD columns (1024 * m + j) (pos 0)
   pub plain : Plain columns′
 

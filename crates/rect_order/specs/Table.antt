@@ -1,6 +1,6 @@
--- A table of rectangles, by which an order is tested: refusal 23, "the order turns a clashing pair round" (document 01, Refusal numbers). A row of it has
--- 24 numbers, six rectangles of four: the first column, the column past the last, the first row, the row past the last. The first rectangle is what the
--- row writes, the five after it are what it reads. A rectangle with no column or no row is empty.
+-- A table of rectangles, by which an order is tested: refusal 23, "the order turns a clashing pair round" (document 01, Refusal numbers). A row of
+-- it has 24 numbers, six rectangles of four: the first column, the column past the last, the first row, the row past the last. The first rectangle
+-- is what the row writes, the five after it are what it reads. A rectangle with no column or no row is empty.
 use mathlib.Core.Path.{_≡_}
 use mathlib.Core.Bool.{Bool, true}
 use mathlib.Core.List.{List, [], _∷_}

@@ -42,7 +42,7 @@ pub fn any_meets(columns: &[i16], from: usize, to: usize, s: Bounds) -> bool
 // Row i of the table is entered.
 pub fn enter(columns: &mut [i16], table: &[i16], i: usize)
     requires { ⌜ (length (now columns) ≡ 24576) × Plain (now columns) × (24 * i + 24 ≤ length (now table)) × (i < 1024) × Plain (now table) ⌝ }
-    ensures { λ _. ⌜ Entered (now (table .entry)) (now (columns .entry)) (now (columns .exit)) i ⌝ }
+    ensures { λ _. ⌜ Entered (now (table .entry)) (now (columns .entry)) (now (columns .exit)) i 24 ⌝ }
 {
     let o = 24 * i;
     let mut m = 0;

@@ -1,5 +1,6 @@
-// Refusal 23: "the order turns a clashing pair round". A walk over the order: an entry below the largest so far is held against the rows after it that
-// have run. Rows that have not run have empty rectangles in the columns. In the plan's own order nothing is compared.
+// Refusal 23: "the order turns a clashing pair round" (document 01, Refusal numbers). A walk over the order: an entry below the largest so far is
+// held against the rows after it that have run. Rows that have not run have empty rectangles in the columns. In the plan's own order nothing is
+// compared.
 use crate::columns;
 use crate::window;
 ghost use mathlib.Core.Path.{_≡_};

@@ -38,6 +38,7 @@ module _ (clash : ℕ → ℕ → Bool) (n : ℕ) (Pair : ℕ → ℕ → Type 0
       pairs = all-decides n _ _ (λ j k. all-decides j _ _ (λ i h.
           implies-decides (clash i j) (ltb (place i order) (place j order)) _ _ (exact i j h k) (lt-decides (place i order) (place j order))))
 
-pub kept-decides : (J : Jobs) (row : ℕ → J .Job) (clash : ℕ → ℕ → Bool) (n : ℕ) → ((i j : ℕ) → i < j → j < n → Decides (clash i j) (Clash J (row i) (row j)))
+pub kept-decides : (J : Jobs) (row : ℕ → J .Job) (clash : ℕ → ℕ → Bool) (n : ℕ)
+    → ((i j : ℕ) → i < j → j < n → Decides (clash i j) (Clash J (row i) (row j)))
     → (order : List ℕ) → Decides (keptB clash n order) (Kept J row n order)
 kept-decides J row clash n exact order = pairs-decide clash n (λ i j. Clash J (row i) (row j)) exact order

@@ -1,6 +1,6 @@
--- A walk over an order that tests it (refusal 23, document 01, Refusal numbers): what is known when k entries are passed, and what it comes to. `clash`
--- is any test of two rows that is the same either way round. The rows passed are noted, and no others: `Noted j` and `Blank j` are what is known of
--- row j's notes when it has run, and when it has not. Assumes nothing.
+-- A walk over an order that tests it (refusal 23, document 01, Refusal numbers): what is known when k entries are passed, and what it comes to.
+-- `clash` is any test of two rows that is the same either way round. The rows passed are noted, and no others: `Noted j` and `Blank j` are what is
+-- known of row j's notes when it has run, and when it has not. Assumes nothing.
 use mathlib.Core.Path.{_≡_, sym, _∙_, ap}
 use mathlib.Core.Logic.{_≢_}
 use mathlib.Core.Bool.{Bool, true, false, true≢false}
@@ -37,7 +37,8 @@ module _ (clash : ℕ → ℕ → Bool) (turned : (i j : ℕ) → clash i j ≡ 
   fresh = fresh-of-once n order once
 
   -- the order is kept if of two clashing entries the first is the lower
-  kept-by-entries : Decides (keptB clash n order) ((a b : ℕ) → a < b → b < n → clash (entry order a) (entry order b) ≡ true → entry order a < entry order b)
+  kept-by-entries : Decides (keptB clash n order)
+      ((a b : ℕ) → a < b → b < n → clash (entry order a) (entry order b) ≡ true → entry order a < entry order b)
   kept-by-entries =
       let p = pairs-decide clash n (λ i j. clash i j ≡ true) (λ i j h k. (λ e. e, λ e. e)) order in
       let q = pairs-at (λ i j. clash i j ≡ true) (λ i j e. turned j i ∙ e) n order once in
@@ -66,7 +67,8 @@ module _ (clash : ℕ → ℕ → Bool) (turned : (i j : ℕ) → clash i j ≡ 
         ]
 
     -- a row after entry k that has run clashes with it: the pair is turned round
-    pub walked-found : k < n → (j : ℕ) → entry order k < j → j < top → (Noted j → clash (entry order k) j ≡ true) → ¬ (Blank j) → false ≡ keptB clash n order
+    pub walked-found : k < n → (j : ℕ) → entry order k < j → j < top → (Noted j → clash (entry order k) j ≡ true) → ¬ (Blank j)
+        → false ≡ keptB clash n order
     walked-found h j l m clashes there = ran-or-rest j (omega (arith, s .within))
         (λ a q at ran. sym (fails _ _ kept-by-entries .1 (λ f. omega (arith, at, f a k q h (rw at (turned j (entry order k) ∙ clashes ran))))))
         (λ b. absurd (there b))
@@ -92,7 +94,8 @@ module _ (clash : ℕ → ℕ → Bool) (turned : (i j : ℕ) → clash i j ≡ 
           | yes q ↦ q
           | no q ↦ elim (ℕ-discrete (entry order a) (entry order k)) [
             | yes p ↦ absurd (fresh .differ a k l h p)
-            | no p ↦ absurd (true≢false (sym (turned (entry order k) (entry order a) ∙ c) ∙ free (entry order a) (omega arith) (s .above a l) (s .ran a l)))
+            | no p ↦
+                absurd (true≢false (sym (turned (entry order k) (entry order a) ∙ c) ∙ free (entry order a) (omega arith) (s .above a l) (s .ran a l)))
           ]
         ]
 

@@ -40,7 +40,9 @@ loop-again : tie.Need-loop-again Inv-loop μ-loop
 loop-again c =
     let k = c .before .before .loop in
     let m = c .meets-at in
-    (omega arith, omega arith, tells-more _ _ _ _ _ (k .inv .0) (λ e. sym (m .ensures) ∙ e) (λ e q. true≢false (sym q ∙ sym (m .ensures) ∙ e)) (k .inv .2))
+    let t =
+    tells-more _ _ (k .p) (k .hit) (m .result) (k .inv .0) (λ e. sym (m .ensures) ∙ e) (λ e q. true≢false (sym q ∙ sym (m .ensures) ∙ e)) (k .inv .2) in
+    (omega arith, omega arith, t)
 
 returns-2 : tie.Need-returns-2 Inv-loop μ-loop
 returns-2 c = let k = c .before .loop in tells-all _ _ _ _ _ (k .inv .1) (omega arith) (k .inv .2)

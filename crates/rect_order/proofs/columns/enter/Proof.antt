@@ -1,17 +1,18 @@
 -- `enter` meets its contract: the first m numbers of the row are entered. Assumes nothing.
 use native.Mathlib.Omega.{arith}
-use mathlib.Core.Path.{_≡_, sym, _∙_, ap}
-use Prim.Native.Nat.{_*_, _-_, _≤_}
+use mathlib.Core.Path.{_≡_, sym, _∙_}
+use Prim.Native.Nat.{_-_, _≤_}
 use lib.ListN.{length, length-set}
 use mir.Syntax.{w16}
 use borrow.Author.Needs.{sfits-of}
 use Rattle.signed.proofs.Bound.{back}
-use Rattle.rect_order.proofs.Enter.{EnteredTo, entered-none, entered-more, entered-all}
+use Rattle.rect_order.specs.Columns.{Entered}
+use Rattle.rect_order.proofs.Enter.{entered-none, entered-more}
 use Rattle.rect_order.proofs.columns.enter.Statement.{statement}
 use Rattle.rect_order.proofs.columns.enter.Tie as tie
 
 abbrev Inv-loop : tie.InvT-loop
-Inv-loop columns₀ table i o m₀ columns m = (m ≤ 24) × (length columns ≡ 24576) × EnteredTo table columns₀ columns i m
+Inv-loop columns₀ table i o m₀ columns m = (m ≤ 24) × (length columns ≡ 24576) × Entered table columns₀ columns i m
 
 abbrev μ-loop : tie.MeasureT-loop
 μ-loop columns₀ table i o m₀ columns m = 24 - m
@@ -53,7 +54,8 @@ loop-again : tie.Need-loop-again Inv-loop μ-loop
 loop-again c =
     let k = c .before .before .loop in
     let s = c .before .before .before in
-    (omega arith, simp length-set (k .inv .1), rw (back w16 (sfits-of (c .number .given))) (entered-more _ _ _ _ _ (s .pre .3) (omega arith) (k .inv .2) (s .pre .4)))
+    let n = entered-more _ _ (k .columns) _ (k .m) (s .pre .3) (omega arith) (k .inv .2) (s .pre .4) in
+    (omega arith, simp length-set (k .inv .1), rw (back w16 (sfits-of (c .number .given))) n)
 
 same-length : tie.Need-same-length Inv-loop μ-loop
 same-length c = c .before .loop .inv .1 ∙ sym (c .before .before .pre .0)
@@ -61,7 +63,7 @@ same-length c = c .before .loop .inv .1 ∙ sym (c .before .before .pre .0)
 returns : tie.Need-returns Inv-loop μ-loop
 returns c =
     let end : c .before .loop .m ≡ 24 = omega arith in
-    entered-all _ _ _ _ (rw end at (c .before .loop .inv .2))
+    rw end at (c .before .loop .inv .2)
 
 pub enter-spec : {M : Type 1} → statement M
 enter-spec =

@@ -18,8 +18,12 @@ abbrev μ-loop : tie.MeasureT-loop
 
 loop-holds : tie.Need-loop-holds Inv-loop μ-loop
 loop-holds c =
-    let s = c .before in
-    (omega arith, ap length (s .pre .1) ∙ length-replicate 24576 (pos 0), rw (s .pre .1) (plain-zeros 24576), rw (s .pre .1) (in-walk-none _ _ (s .pre .0)))
+    let s = c .before in (
+      omega arith,
+      ap length (s .pre .1) ∙ length-replicate 24576 (pos 0),
+      rw (s .pre .1) (plain-zeros 24576),
+      rw (s .pre .1) (in-walk-none _ _ (s .pre .0)),
+    )
 
 mul-i : tie.Need-mul-i Inv-loop μ-loop
 mul-i c = omega arith
@@ -52,8 +56,8 @@ same-length c =
 returns : tie.Need-returns Inv-loop μ-loop
 returns c =
     let l = c .before .before .before .before .before in
-    in-walk-found _ _ (l .before .before .pre .0) (l .loop .columns) (l .loop .k) (l .loop .top) (l .loop .inv .3) (c .before .before .before .before .loop-test .taken) _
-    (c .before .search .ensures) (c .if1 .taken)
+    in-walk-found _ _ (l .before .before .pre .0) (l .loop .columns) (l .loop .k) (l .loop .top) (l .loop .inv .3)
+    (c .before .before .before .before .loop-test .taken) _ (c .before .search .ensures) (c .if1 .taken)
 
 enter-requires : tie.Need-enter-requires Inv-loop μ-loop
 enter-requires c κs =
@@ -85,8 +89,8 @@ loop-again c =
       n .ensures .plain,
       rw (c .max .ensures)
           (in-walk-more _ _ (l .before .before .pre .0) (l .loop .columns) (l .loop .k) (l .loop .top) (l .loop .inv .3)
-          (c .before .before .before .before .before .before .before .before .loop-test .taken) _ (c .before .before .before .before .before .search .ensures)
-          (c .before .before .before .before .if1 .left) (n .last .0) (n .ensures)),
+          (c .before .before .before .before .before .before .before .before .loop-test .taken) _
+          (c .before .before .before .before .before .search .ensures) (c .before .before .before .before .if1 .left) (n .last .0) (n .ensures)),
     )
 
 same-length-2 : tie.Need-same-length-2 Inv-loop μ-loop

@@ -13,7 +13,8 @@ use Rattle.rect_order.proofs.window.reads_meet.Statement.{statement}
 use Rattle.rect_order.proofs.window.reads_meet.Tie as tie
 
 abbrev Inv-loop : tie.InvT-loop
-Inv-loop columns table i from to k₀ k = (1 ≤ k) × (k ≤ 6) × ((m j : ℕ) → 1 ≤ m → m < k → from ≤ j → j < to → ¬ (meetB (rectIn table i m) (rectAt columns j) ≡ true))
+Inv-loop columns table i from to k₀ k = (1 ≤ k) × (k ≤ 6)
+    × ((m j : ℕ) → 1 ≤ m → m < k → from ≤ j → j < to → ¬ (meetB (rectIn table i m) (rectAt columns j) ≡ true))
 
 abbrev μ-loop : tie.MeasureT-loop
 μ-loop columns table i from to k₀ k = 6 - k
@@ -28,14 +29,16 @@ any-meets-requires : tie.Need-any-meets-requires Inv-loop μ-loop
 any-meets-requires c κs =
     let s = c .before .before .before in
     let p = s .pre in
-    (p .parts, omega (arith, p .window), p .plain, rw (c .bounds-in .ensures) (plain-bounds (s .args .table .now) (s .args .i) (c .before .before .loop .k) (p .numbers)))
+    let b = plain-bounds (s .args .table .now) (s .args .i) (c .before .before .loop .k) (p .numbers) in
+    (p .parts, omega (arith, p .window), p .plain, rw (c .bounds-in .ensures) b)
 
 returns : tie.Need-returns Inv-loop μ-loop
 returns c =
     let k = c .before .before .before .before .loop in
     let columns = c .before .before .before .before .before .args .columns .now in
     let s = c .before .any-meets .ensures .some (c .if1 .taken) in
-    tells-one _ _ _ (s .0) (s .1) (s .2) (k .k, k .inv .0, omega arith, sym (ap (λ b. meetB (spanOf b) (rectAt columns (s .0))) (c .before .before .bounds-in .ensures)) ∙ s .3)
+    let same = ap (λ b. meetB (spanOf b) (rectAt columns (s .0))) (c .before .before .bounds-in .ensures) in
+    tells-one _ _ _ (s .0) (s .1) (s .2) (k .k, k .inv .0, omega arith, sym same ∙ s .3)
 
 add-k : tie.Need-add-k Inv-loop μ-loop
 add-k c = omega arith
@@ -46,11 +49,12 @@ loop-less c = omega arith
 loop-again : tie.Need-loop-again Inv-loop μ-loop
 loop-again c =
     let k = c .before .before .before .before .loop in
-    let columns = c .before .before .before .before .before .args .columns .now in (
+    let columns = c .before .before .before .before .before .args .columns .now in
+    let none = c .before .any-meets .ensures .none (c .if1 .left) in (
       omega arith,
       omega arith,
       λ m j l h a b. elim (ℕ-discrete m (k .k)) [
-        | yes q ↦ rw q (λ e. c .before .any-meets .ensures .none (c .if1 .left) j a b (ap (λ r. meetB (spanOf r) (rectAt columns j)) (c .before .before .bounds-in .ensures) ∙ e))
+        | yes q ↦ rw q (λ e. none j a b (ap (λ r. meetB (spanOf r) (rectAt columns j)) (c .before .before .bounds-in .ensures) ∙ e))
         | no q ↦ k .inv .2 m j l (omega arith) a b
       ],
     )

@@ -2,7 +2,6 @@
 use native.Mathlib.Omega.{arith}
 use mathlib.Core.Logic.{inl}
 use borrow.Author.Needs.{needs}
-use Rattle.rect_order.specs.Columns.{spanOf, Tells, WriteMeets, ReadMeets}
 use Rattle.rect_order.proofs.Meet.{plain-bounds}
 use Rattle.rect_order.proofs.Tells.{tells-not, tells-one, tells-either}
 use Rattle.rect_order.proofs.window.search.Statement.{statement}
@@ -21,7 +20,8 @@ write-meets-requires : tie.Need-write-meets-requires
 write-meets-requires c κs =
     let s = c .before .before in
     let p = s .pre in
-    (p .parts, omega (arith, p .few), p .window, p .plain, rw (c .bounds-in .ensures) (plain-bounds (s .args .table .now) (s .args .i) 0 (p .numbers)))
+    let b = plain-bounds (s .args .table .now) (s .args .i) 0 (p .numbers) in
+    (p .parts, omega (arith, p .few), p .window, p .plain, rw (c .bounds-in .ensures) b)
 
 returns-2 : tie.Need-returns-2
 returns-2 c =
