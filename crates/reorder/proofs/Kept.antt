@@ -1,4 +1,4 @@
--- The clashing pairs by places, as two loops over the order test them: of two clashing entries the first is the lower. Assumes nothing.
+-- The clashing pairs by places, as a walk over the order tests them: of two clashing entries the first is the lower. Assumes nothing.
 use mathlib.Core.Path.{_≡_, sym, ap, _∙_}
 use mathlib.Core.Logic.{_↔_}
 use mathlib.Core.List.{List}
@@ -9,7 +9,7 @@ use lib.ListN.{getD}
 use Rattle.reorder.specs.Entry.{place}
 use Rattle.reorder.specs.Once.{Once}
 use Rattle.reorder.specs.Jobs.{Jobs, Clash}
-use Rattle.reorder.specs.Order.{Kept, KeptAt, KeptTo}
+use Rattle.reorder.specs.Order.{Kept, KeptAt}
 use Rattle.reorder.proofs.Entry.{place-lt}
 use Rattle.reorder.proofs.Counts.{once-single}
 use Rattle.reorder.proofs.Places.{entry-place, place-entry}
@@ -65,13 +65,3 @@ module _ (Pair : ℕ → ℕ → Type 0) (turned : (i j : ℕ) → Pair i j → 
 
 pub kept-at : (J : Jobs) (row : ℕ → J .Job) (n : ℕ) (order : List ℕ) → Once n order → Kept J row n order ↔ KeptAt J row n order
 kept-at J row n order o = pairs-at (λ i j. Clash J (row i) (row j)) (λ i j. clash-sym J (row i) (row j)) n order o
-
--- ---- what the two loops come to
-
-module _ (J : Jobs) (row : ℕ → J .Job) (order : List ℕ) where
-  pub kept-of-passed : (n : ℕ) → Once n order → KeptTo J row order n → Kept J row n order
-  kept-of-passed n o g = kept-at J row n order o .1 g
-
-  -- a pair turned round
-  pub not-kept : (n a b : ℕ) → Once n order → a < b → b < n → Clash J (row (getD order a 0)) (row (getD order b 0)) → getD order b 0 < getD order a 0 → ¬ (Kept J row n order)
-  not-kept n a b o h k cl t g = omega (arith, kept-at J row n order o .0 g a b h k cl)
