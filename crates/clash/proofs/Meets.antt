@@ -1,12 +1,12 @@
 -- Of two jobs that clash, one's block meets the other's hull; and a clash is the same either way round. Assumes nothing.
 use mathlib.Core.Path.{_≡_, refl, sym, _∙_}
 use mathlib.Core.Logic.{_⊎_, inl, inr, ⊎-elim, ⊎-map}
-use mathlib.Core.Bool.{Bool, true, false, _||_, or-comm, true≢false}
+use mathlib.Core.Bool.{Bool, true, false, _||_, true≢false}
 use mathlib.Core.List.{[], _∷_}
 use Prim.Native.Nat.{ℕ}
 use Rattle.reorder.specs.Rect.{In, InAny, meetB, crossB, clashB}
 use Rattle.reorder.proofs.Rect.{meet-decides}
-use Rattle.reorder.proofs.Cross.{clash-decides}
+use Rattle.reorder.proofs.Cross.{clash-swapped, clash-decides}
 use Rattle.block_spec.specs.declared.spec.IntraRefSpec.{IntraRefSpec}
 use Rattle.job.specs.Row.{Row, specOf}
 use Rattle.job.specs.Rules.{stands}
@@ -18,11 +18,8 @@ use Rattle.clash.proofs.Around.{hull-wide, block-wide, writes-in, block
 
 module _ (W H n : ℕ) where
   pub clash-turned : (i j : Row) → clashOf W H n i j ≡ clashOf W H n j i
-  unfolding clashOf clashB
-  clash-turned i j =
-      or-comm
-      (crossB (writesOf W H n i) (readsOf W H n j) || crossB (writesOf W H n i) (writesOf W H n j))
-      (crossB (writesOf W H n j) (readsOf W H n i) || crossB (writesOf W H n j) (writesOf W H n i))
+  unfolding clashOf
+  clash-turned i j = clash-swapped _ _ _ _
 
   pub clash-stands : (i j : Row) → clashOf W H n i j ≡ true → (stands W H n i ≡ true) × (stands W H n j ≡ true)
   unfolding clashOf

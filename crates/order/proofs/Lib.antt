@@ -1,7 +1,6 @@
 -- Laws of the test of an order.
 pub mod Entries
 pub mod Lists
-pub mod Pairs
 pub mod Bounds
+pub mod Touched
 pub mod Walk
-pub mod Step

@@ -1,7 +1,7 @@
 -- Several rectangles against several, and the clash of two jobs by their rectangles. Assumes nothing.
 use mathlib.Core.Path.{_≡_, _∙_}
 use mathlib.Core.Logic.{Iff·trans, _⊎_, inl, inr}
-use mathlib.Core.Bool.{false, _||_, false≢true, or-false}
+use mathlib.Core.Bool.{false, _||_, false≢true, or-false, or-comm}
 use mathlib.Core.List.{List, [], _∷_}
 use Prim.Native.Nat.{ℕ}
 use Rattle.reorder.specs.Test.{Decides}
@@ -40,6 +40,11 @@ cross-decides W (A ∷ As) Bs wa wb =
 pub cross-one : (A B : Rect) → crossB (A ∷ []) (B ∷ []) ≡ meetB A B
 unfolding crossB meetAnyB
 cross-one A B = or-false (meetB A B || false) ∙ or-false (meetB A B)
+
+-- a clash is the same either way round
+pub clash-swapped : (ri wi rj wj : List Rect) → clashB ri wi rj wj ≡ clashB rj wj ri wi
+unfolding clashB
+clash-swapped ri wi rj wj = or-comm (crossB wi rj || crossB wi wj) (crossB wj ri || crossB wj wi)
 
 -- `Clash` of Jobs.antt, where Reads and Writes are `InAny`
 pub clash-decides : (W : ℕ) (ri wi rj wj : List Rect) → AllWide W ri → AllWide W wi → AllWide W rj → AllWide W wj

@@ -11,6 +11,7 @@ pub mod Kept
 pub mod Run
 pub mod Own
 pub mod Check
+pub mod Walk
 pub mod Swap
 pub mod Rect
 pub mod Cross

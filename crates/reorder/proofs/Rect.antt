@@ -68,6 +68,16 @@ meet-decides W A B wa wb = Iff·trans (and-decides _ _ _ _ (lt-decides _ _) (lt-
         let c : i .col ≡ j .col = same-col W (i .row) (i .col) (j .row) (j .col) (omega arith) (omega arith) e in
         omega arith
 
+-- which of the two comes first makes no difference
+pub meet-swapped : (A B : Rect) → meetB A B ≡ meetB B A
+unfolding meetB
+meet-swapped A B =
+    let left : max (A .x) (B .x) ≡ max (B .x) (A .x) = omega arith in
+    let right : min (A .x + A .w) (B .x + B .w) ≡ min (B .x + B .w) (A .x + A .w) = omega arith in
+    let top : max (A .y) (B .y) ≡ max (B .y) (A .y) = omega arith in
+    let bottom : min (A .y + A .h) (B .y + B .h) ≡ min (B .y + B .h) (A .y + A .h) = omega arith in
+    λ i. ltb (left i) (right i) && ltb (top i) (bottom i)
+
 -- the same test by code that has its rectangles in locals: the columns are tried first, then the rows. `lx` is where the shared columns begin and
 -- `sx` where they end, and so for the rows
 module _ (A B : Rect) (lx sx : ℕ) (el : lx ≡ max (A .x) (B .x)) (es : sx ≡ min (A .x + A .w) (B .x + B .w)) where

@@ -48,3 +48,8 @@ unfolding allBelow
 all-decides zero f P d = (λ e i h. absurd (omega arith), λ h. refl)
 all-decides (suc n) f P d =
     Iff·trans (and-decides (allBelow n f) (f n) ((i : ℕ) → i < n → P i) (P n) (all-decides n f P (λ i h. d i (omega arith))) (d n (omega arith))) (below-suc n P)
+
+pub all-below-same : (n : ℕ) (f g : ℕ → Bool) → ((i : ℕ) → i < n → f i ≡ g i) → allBelow n f ≡ allBelow n g
+unfolding allBelow
+all-below-same zero f g same = refl
+all-below-same (suc n) f g same = let e = all-below-same n f g (λ i h. same i (omega arith)) in λ i. e i && same n (omega arith) i

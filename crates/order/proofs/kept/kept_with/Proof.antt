@@ -5,13 +5,12 @@ use Prim.Native.Nat.{_≤_, _-_}
 use lib.IntN.{pos}
 use lib.ListN.{length, length-replicate}
 use Rattle.order.proofs.Lists.{length-noted}
-use Rattle.order.proofs.Walk.{Walked, walked-none, walked-all, entry-below}
-use Rattle.order.proofs.Step.{walked-found, walked-more}
+use Rattle.order.proofs.Walk.{InWalk, entry-below, in-walk-none, in-walk-found, in-walk-more, in-walk-all}
 use Rattle.order.proofs.kept.kept_with.Statement.{statement}
 use Rattle.order.proofs.kept.kept_with.Tie as tie
 
 abbrev Inv-loop : tie.InvT-loop
-Inv-loop width height n plan order blocks₀ hulls₀ top₀ k₀ blocks hulls top k = (k ≤ length order) × (length blocks ≡ 4096) × (length hulls ≡ 4096) × Walked width height n plan order k top blocks hulls
+Inv-loop width height n plan order blocks₀ hulls₀ top₀ k₀ blocks hulls top k = (k ≤ length order) × (length blocks ≡ 4096) × (length hulls ≡ 4096) × InWalk width height n plan order k top blocks hulls
 
 abbrev μ-loop : tie.MeasureT-loop
 μ-loop width height n plan order blocks₀ hulls₀ top₀ k₀ blocks hulls top k = length order - k
@@ -22,7 +21,7 @@ loop-holds c =
       omega arith,
       ap length (s .pre .1) ∙ length-replicate 4096 (pos 0),
       ap length (s .pre .2) ∙ length-replicate 4096 (pos 0),
-      rw (s .pre .1, s .pre .2) (walked-none _ _ _ _ _),
+      rw (s .pre .1, s .pre .2) (in-walk-none _ _ _ _ _ (s .pre .0)),
     )
 
 mul-i : tie.Need-mul-i Inv-loop μ-loop
@@ -64,8 +63,8 @@ returns : tie.Need-returns Inv-loop μ-loop
 returns c =
     let l = c .before .before .before .before .before .before .before .before in
     let s = l .before .before .before in
-    walked-found _ _ _ _ _ (s .pre .0) (l .loop .k) (l .loop .top) (l .loop .blocks) (l .loop .hulls) (c .before .before .before .before .before .before .before .loop-test .taken) (l .loop .inv .3) _
-    (c .before .before .before .pass .ensures .searched) (c .if1 .taken)
+    in-walk-found _ _ _ _ _ (s .pre .0) (l .loop .k) (l .loop .top) (l .loop .blocks) (l .loop .hulls) (l .loop .inv .3)
+    (c .before .before .before .before .before .before .before .loop-test .taken) _ (c .before .before .before .pass .ensures .searched) (c .if1 .taken)
 
 add-max : tie.Need-add-max Inv-loop μ-loop
 add-max c = omega (arith, c .before .before .before .before .before .before .shared-slice-known3 .given (c .before .before .before .before .before .before .before .before .loop .k))
@@ -89,8 +88,8 @@ loop-again c =
       ap length (p .blocks-are e) ∙ length-noted _ _ _ ∙ l .loop .inv .1,
       ap length (p .hulls-are e) ∙ length-noted _ _ _ ∙ l .loop .inv .2,
       rw (c .max .ensures, p .blocks-are e, p .hulls-are e)
-          (walked-more _ _ _ _ _ (s .pre .0) (l .loop .k) (l .loop .top) (l .loop .blocks) (l .loop .hulls) (c .before .before .before .before .before .before .before .before .loop-test .taken) (l .loop .inv .3) _
-          (p .searched) e (l .loop .inv .1) (l .loop .inv .2)),
+          (in-walk-more _ _ _ _ _ (s .pre .0) (l .loop .k) (l .loop .top) (l .loop .blocks) (l .loop .hulls) (l .loop .inv .3)
+          (c .before .before .before .before .before .before .before .before .loop-test .taken) _ (p .searched) e (l .loop .inv .1) (l .loop .inv .2)),
     )
 
 same-length-3 : tie.Need-same-length-3 Inv-loop μ-loop
@@ -102,7 +101,7 @@ same-length-4 c = let s = c .before .before .before .before in c .before .loop .
 returns-2 : tie.Need-returns-2 Inv-loop μ-loop
 returns-2 c =
     let l = c .before in
-    walked-all _ _ _ _ _ (l .before .before .before .pre .0) (l .loop .k) (l .loop .top) (l .loop .blocks) (l .loop .hulls) (omega arith) (l .loop .inv .3)
+    in-walk-all _ _ _ _ _ (l .before .before .before .pre .0) (l .loop .k) (l .loop .top) (l .loop .blocks) (l .loop .hulls) (l .loop .inv .3) (omega arith)
 
 pub kept-with-spec : {M : Type 1} → statement M
 kept-with-spec =
