@@ -3,7 +3,7 @@
 use mathlib.Core.Path.{_≡_, _∙_}
 use mathlib.Core.Bool.{Bool, true, false}
 use mathlib.Core.List.{List}
-use Prim.Native.Nat.{ℕ, _+_, _≤_, _<_, max}
+use Prim.Native.Nat.{ℕ, _+_, _≤_, _<_}
 use native.Mathlib.Omega.{arith}
 use lib.IntN.{ℤ, pos}
 use lib.ListN.{length, replicate}
@@ -70,10 +70,10 @@ module _ (W H n : ℕ) (plan order : List ℕ) (w : Walk W H plan order) where
           ∙ kept-is
 
       -- none does: it is passed, and noted
-      pub in-walk-more : r ≡ false → length blocks ≡ 4096 → length hulls ≡ 4096
-          → InWalk W H n plan order (k + 1) (max top (entry order k + 1)) (noted blocks (entry order k) block) (noted hulls (entry order k) hull)
-      in-walk-more e lb lh =
-          walked-more (rowsClash W H n plan) turned (length order) order once _ _ k top s _ _ h
+      pub in-walk-more : r ≡ false → (top′ : ℕ) → top ≤ top′ → entry order k < top′ → top′ ≤ length order → length blocks ≡ 4096 → length hulls ≡ 4096
+          → InWalk W H n plan order (k + 1) top′ (noted blocks (entry order k) block) (noted hulls (entry order k) hull)
+      in-walk-more e top′ over above within lb lh =
+          walked-more (rowsClash W H n plan) turned (length order) order once _ _ k top s _ _ top′ h over above within
           (λ j l m ran. free-if W H n plan blocks hulls (entry order k) j ran (t .free e j l m))
           (noted-at blocks _ _ lb small, noted-at hulls _ _ lh small)
           (λ j l ne.

@@ -1,4 +1,5 @@
--- A table of rectangles: how one is filled, for a caller; and that a clash of two rows is the same either way round. Assumes nothing.
+-- A table of rectangles, for a caller: how one is filled, and what its test comes to. A clash of two rows is the same either way round. Assumes
+-- nothing.
 use mathlib.Core.Path.{_≡_}
 use mathlib.Core.List.{List}
 use Prim.Native.Nat.{ℕ, _+_, _*_, _-_, _<_}
@@ -7,10 +8,12 @@ use native.Mathlib.Omega.{arith}
 use lib.IntN.{ℤ, pos, natAbs}
 use lib.ListN.{length, getD, set, replicate}
 use lib.Seq.{getD-set-same, getD-set-other}
-use Rattle.reorder.specs.Rect.{Rect}
+use Rattle.reorder.specs.Rect.{Rect, clashB}
+use Rattle.reorder.specs.Check.{keptB}
+use Rattle.reorder.proofs.Check.{kept-same}
 use Rattle.reorder.proofs.Cross.{clash-swapped}
 use Rattle.each_once.proofs.Seen.{all-same}
-use Rattle.rect_order.specs.Table.{rectIn, clashIn, Plain}
+use Rattle.rect_order.specs.Table.{rectIn, writesIn, readsIn, clashIn, Plain}
 
 -- ---- no number is negative
 
@@ -39,3 +42,11 @@ rect-is table i k R x0 x1 y0 y1 =
 pub clash-turned : (table : List ℤ) (i j : ℕ) → clashIn table i j ≡ clashIn table j i
 unfolding clashIn
 clash-turned table i j = clash-swapped _ _ _ _
+
+-- where the table holds what rows read and write, its test is theirs
+pub kept-for : (table : List ℤ) (n : ℕ) (reads writes : ℕ → List Rect)
+    → ((i : ℕ) → i < n → readsIn table i ≡ reads i) → ((i : ℕ) → i < n → writesIn table i ≡ writes i)
+    → (order : List ℕ) → keptB (clashIn table) n order ≡ keptB (λ i j. clashB (reads i) (writes i) (reads j) (writes j)) n order
+unfolding clashIn
+kept-for table n reads writes r w order =
+    kept-same _ _ n (λ i j h k m. clashB (r i (omega arith) m) (w i (omega arith) m) (r j k m) (w j k m)) order

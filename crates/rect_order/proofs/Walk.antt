@@ -2,7 +2,7 @@
 use mathlib.Core.Path.{_≡_, _∙_}
 use mathlib.Core.Bool.{Bool, true, false}
 use mathlib.Core.List.{List}
-use Prim.Native.Nat.{ℕ, _+_, _*_, _≤_, _<_, max}
+use Prim.Native.Nat.{ℕ, _+_, _*_, _≤_, _<_}
 use native.Mathlib.Omega.{arith}
 use lib.IntN.{ℤ, pos}
 use lib.ListN.{length, replicate}
@@ -45,10 +45,11 @@ module _ (table : List ℤ) (order : List ℕ) (t : Tabled table order) where
           (λ c. struck-clashes table columns _ _ c (q .3)) (λ c. not-struck table columns _ _ c (q .3))
 
       -- none does, and the row is entered
-      pub in-walk-more : r ≡ false → (columns′ : List ℤ) → Entered table columns columns′ (entry order k) 24
-          → InWalk table order columns′ (k + 1) (max top (entry order k + 1))
-      in-walk-more e columns′ n =
-          walked-more (clashIn table) (clash-turned table) (length order) order once _ _ k top s (InColumns table columns′) (NotInColumns columns′) h
+      pub in-walk-more : r ≡ false → (top′ : ℕ) → top ≤ top′ → entry order k < top′ → top′ ≤ length order
+          → (columns′ : List ℤ) → Entered table columns columns′ (entry order k) 24 → InWalk table order columns′ (k + 1) top′
+      in-walk-more e top′ over above within columns′ n =
+          walked-more (clashIn table) (clash-turned table) (length order) order once _ _ k top s (InColumns table columns′) (NotInColumns columns′) top′ h
+          over above within
           (λ j l m c. not-struck-free table columns _ _ c (f .none e j (omega arith) m))
           (n .here)
           (λ j l ne. (λ c m q. n .other m j (omega (arith, t .few)) ne ∙ c m q, λ c m q. n .other m j (omega (arith, t .few)) ne ∙ c m q))

@@ -5,7 +5,7 @@ use mathlib.Core.Path.{_≡_, sym, _∙_, ap}
 use mathlib.Core.Logic.{_≢_}
 use mathlib.Core.Bool.{Bool, true, false, true≢false}
 use mathlib.Core.List.{List}
-use Prim.Native.Nat.{ℕ, _+_, _≤_, _<_, max}
+use Prim.Native.Nat.{ℕ, _+_, _≤_, _<_}
 use native.Mathlib.Decide.{ℕ-discrete, decLt}
 use native.Mathlib.Omega.{arith}
 use lib.ListN.{getD}
@@ -74,13 +74,13 @@ module _ (clash : ℕ → ℕ → Bool) (turned : (i j : ℕ) → clash i j ≡ 
         (λ b. absurd (there b))
 
     -- none does: one entry more is passed, and its row is noted
-    pub walked-more : (Noted′ Blank′ : ℕ → Type 0) → k < n
+    pub walked-more : (Noted′ Blank′ : ℕ → Type 0) (top′ : ℕ) → k < n → top ≤ top′ → entry order k < top′ → top′ ≤ n
         → ((j : ℕ) → entry order k < j → j < top → Noted j → clash (entry order k) j ≡ false)
         → Noted′ (entry order k) → ((j : ℕ) → j < n → j ≢ entry order k → (Noted j → Noted′ j) × (Blank j → Blank′ j))
-        → Walked clash n order Noted′ Blank′ (k + 1) (max top (entry order k + 1))
-    walked-more Noted′ Blank′ h free here other = record {
+        → Walked clash n order Noted′ Blank′ (k + 1) top′
+    walked-more Noted′ Blank′ top′ h over above within free here other = record {
       above = λ a l. elim (ℕ-discrete a k) [ yes q ↦ omega (arith, ap (entry order) q) | no q ↦ omega (arith, s .above a (omega arith)) ];
-      within = omega (arith, s .within, fresh .below k h);
+      within = within;
       pairs = λ a b l m c. elim (ℕ-discrete b k) [ yes q ↦ rw q (passed a (omega arith) (rw q at c)) | no q ↦ s .pairs a b l (omega arith) c ];
       ran = λ a l. elim (ℕ-discrete a k) [
         | yes q ↦ rw q here

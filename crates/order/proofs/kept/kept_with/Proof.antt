@@ -81,15 +81,19 @@ loop-less c = omega arith
 loop-again : tie.Need-loop-again Inv-loop μ-loop
 loop-again c =
     let l = c .before .before .before .before .before .before .before .before .before in
-    let s = l .before .before .before in
+    let w = l .before .before .before .pre .0 in
+    let h = c .before .before .before .before .before .before .before .before .loop-test .taken in
     let p = c .before .before .before .before .pass .ensures in
-    let e = c .before .if1 .left in (
+    let e = c .before .if1 .left in
+    let m = c .max .ensures in (
       omega arith,
       ap length (p .blocks-are e) ∙ length-noted _ _ _ ∙ l .loop .inv .1,
       ap length (p .hulls-are e) ∙ length-noted _ _ _ ∙ l .loop .inv .2,
-      rw (c .max .ensures, p .blocks-are e, p .hulls-are e)
-          (in-walk-more _ _ _ _ _ (s .pre .0) (l .loop .k) (l .loop .top) (l .loop .blocks) (l .loop .hulls) (l .loop .inv .3)
-          (c .before .before .before .before .before .before .before .before .loop-test .taken) _ (p .searched) e (l .loop .inv .1) (l .loop .inv .2)),
+      rw (p .blocks-are e, p .hulls-are e)
+          (in-walk-more _ _ _ _ _ w (l .loop .k) (l .loop .top) (l .loop .blocks) (l .loop .hulls) (l .loop .inv .3) h _ (p .searched) e
+          (c .max .result) (omega (arith, m)) (omega (arith, m))
+          (omega (arith, m, l .loop .inv .3 .within, entry-below _ _ (l .before .before .before .args .n) _ _ w (l .loop .k) h))
+          (l .loop .inv .1) (l .loop .inv .2)),
     )
 
 same-length-3 : tie.Need-same-length-3 Inv-loop μ-loop

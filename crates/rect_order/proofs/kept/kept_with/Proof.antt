@@ -83,14 +83,17 @@ loop-less c = omega arith
 loop-again : tie.Need-loop-again Inv-loop μ-loop
 loop-again c =
     let l = c .before .before .before .before .before .before .before .before .before in
-    let n = c .before .before .enter in (
+    let n = c .before .before .enter in
+    let h = c .before .before .before .before .before .before .before .before .loop-test .taken in
+    let t = l .before .before .pre .0 in
+    let m = c .max .ensures in (
       omega arith,
       c .before .columns .given ∙ l .loop .inv .1,
       n .ensures .plain,
-      rw (c .max .ensures)
-          (in-walk-more _ _ (l .before .before .pre .0) (l .loop .columns) (l .loop .k) (l .loop .top) (l .loop .inv .3)
-          (c .before .before .before .before .before .before .before .before .loop-test .taken) _
-          (c .before .before .before .before .before .search .ensures) (c .before .before .before .before .if1 .left) (n .last .0) (n .ensures)),
+      in-walk-more _ _ t (l .loop .columns) (l .loop .k) (l .loop .top) (l .loop .inv .3) h _
+          (c .before .before .before .before .before .search .ensures) (c .before .before .before .before .if1 .left)
+          (c .max .result) (omega (arith, m)) (omega (arith, m)) (omega (arith, m, l .loop .inv .3 .within, entry-below _ _ t (l .loop .k) h))
+          (n .last .0) (n .ensures),
     )
 
 same-length-2 : tie.Need-same-length-2 Inv-loop μ-loop
