@@ -1,2 +1,7 @@
--- Laws of one job of a tower's run: its answer, and what the theory of orders asks of it.
+-- Laws of one job of a tower's run: its answer, what it leaves, and what the theory of orders asks of it.
 pub mod Answer
+pub mod Block
+pub mod Local
+pub mod Frame
+pub mod Laws
+pub mod Clash
