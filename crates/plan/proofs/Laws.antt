@@ -25,31 +25,10 @@ use Rattle.touches.specs.Rects.{clashOf}
 use Rattle.job_work.specs.Jobs.{jobs}
 use Rattle.job_work.proofs.Clash.{clash-exact}
 use Rattle.order.specs.Rules.{jobsIn, isOnce, isKept}
+use Rattle.run_rules.proofs.Verdict.{verdict, verdict-22, verdict-23}
 use Rattle.run_rules.specs.Rules.{isPlan, runRules, runAnswer}
 use Rattle.plan.specs.Run.{Memory, inOrder, planOrder, answerFor}
 use Rattle.plan.proofs.Reorder.{once-exact, kept-exact, ready}
-
--- ---- the answer where 20 and 21 do not refuse, by the two tests of the order
-
-abbrev verdict : Bool → Bool → Answer
-verdict once kept = cond once (cond kept Done PairTurned) NotEachOnce
-
-module _ (once kept : Bool) (O K : Type 0) (eo : Decides once O) (ek : Decides kept K) where
-  verdict-22 : (verdict once kept ≡ NotEachOnce) ↔ (¬ O)
-  verdict-22 = (to once kept refl, λ h. rw (fails once O eo .1 h))
-    where
-      to : (a b : Bool) → once ≡ a → verdict a b ≡ NotEachOnce → ¬ O
-      to true true p e = absurd (omega (arith, ap answerNumber e))
-      to true false p e = absurd (omega (arith, ap answerNumber e))
-      to false b p e = fails once O eo .0 p
-
-  verdict-23 : (verdict once kept ≡ PairTurned) ↔ (O × ¬ K)
-  verdict-23 = (to once kept refl refl, λ h. rw (eo .1 (h .0), fails kept K ek .1 (h .1)))
-    where
-      to : (a b : Bool) → once ≡ a → kept ≡ b → verdict a b ≡ PairTurned → O × ¬ K
-      to true true p q e = absurd (omega (arith, ap answerNumber e))
-      to true false p q e = (eo .0 p, fails kept K ek .0 q)
-      to false b p q e = absurd (omega (arith, ap answerNumber e))
 
 -- ---- which orders are accepted, and what 22 and 23 say
 

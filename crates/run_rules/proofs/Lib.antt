@@ -1,3 +1,4 @@
 -- What the tests have shown, and orders that are accepted or refused.
 pub mod Tests
 pub mod Cases
+pub mod Verdict

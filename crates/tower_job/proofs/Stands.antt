@@ -2,8 +2,9 @@
 use mathlib.Core.Path.{_≡_, refl, sym, _∙_, ap}
 use mathlib.Core.Bool.{Bool, true, false, not, _&&_, true≢false}
 use Prim.Native.Nat.{ℕ, _+_, _-_, _*_, _≤_}
+use native.Mathlib.Decide.{ℕ-discrete}
 use native.Mathlib.Omega.{arith}
-use lib.Dec.{leb}
+use lib.Dec.{leb, eqb}
 use borrow.Author.Tests.{leb-true, le-leb}
 use Rattle.numbers.specs.Answer.{isDone}
 use Rattle.refusals.proofs.Ladder.{all-of}
@@ -115,3 +116,16 @@ module _ (W H n : ℕ) (row : Row) where
       let p3 = and-both _ _ (p4 .0) in
       let p2 = and-both _ _ (p3 .0) in
       leb-true _ _ (and-both (leb (planeOf row) 2) _ (p2 .0) .0)
+
+  -- "mode 5 on plane 0" is refused
+  pub colour-plane : isColourMode row ≡ true → towerStands W H n row ≡ true → 1 ≤ planeOf row
+  unfolding isTower
+  colour-plane m e =
+      let p4 = and-both _ (isSpare row) (stands-tower e) in
+      let p3 = and-both _ _ (p4 .0) in
+      let p2 = and-both _ _ (p3 .0) in
+      let off = and-both (leb (planeOf row) 2) (not (isColourMode row && eqb (planeOf row) 0)) (p2 .0) .1 in
+      elim (ℕ-discrete (planeOf row) 0) [
+        | yes z ↦ absurd (true≢false (sym off ∙ rw (m, z)))
+        | no z ↦ omega arith
+      ]

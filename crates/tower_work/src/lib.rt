@@ -30,6 +30,8 @@ fn do_read(
 {
     let k = job.plane;
     let mode = job.mode;
+    let start = 0;
+    let end = 128;
     match mode {
         TowerMode::Base(base) => base::on_plane(
             p0,
@@ -39,8 +41,8 @@ fn do_read(
             width,
             base,
             differences,
-            &mut luma[..128],
-            &mut chroma[..128],
+            &mut luma[start..end],
+            &mut chroma[start..end],
             out,
         ),
         TowerMode::Colour(c) => colour::on_plane(p0, p1, p2, k, width, c, luma, chroma, block),
