@@ -50,7 +50,7 @@ fn accepted(params: Params) -> Derived
 }
 
 // What the samples of a window give that passed the tests before 13: its parameters, or a refusal.
-fn sampled(
+pub fn sampled(
     luma: &[i32],
     chroma: &[i32],
     w: Window,

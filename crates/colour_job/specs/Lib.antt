@@ -1,0 +1,3 @@
+-- A colour job over a luma plane and a chroma plane: what it reads of them, its test of that, and what it leaves, all to be believed.
+pub mod Windows
+pub mod Done

@@ -1,0 +1,2 @@
+-- Laws of the words' places.
+pub mod Places
