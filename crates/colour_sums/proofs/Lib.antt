@@ -8,3 +8,4 @@ pub mod Taken
 pub mod Whole
 pub mod Count
 pub mod Sizes
+pub mod Same
