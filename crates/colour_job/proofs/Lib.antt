@@ -1,1 +1,4 @@
--- Laws.
+-- Laws of the windows' places, of what was tested and read, and of what the parameters and the block hang on.
+pub mod Rects
+pub mod Tested
+pub mod Read
