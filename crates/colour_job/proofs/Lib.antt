@@ -2,3 +2,5 @@
 pub mod Rects
 pub mod Tested
 pub mod Read
+pub mod Same
+pub mod Held

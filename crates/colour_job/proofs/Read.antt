@@ -81,7 +81,7 @@ module _ {size W : ℕ} {c : ColourWords} (l : ColourLaid size W c) {f : ℕ →
 
 -- ---- and what the block needs
 -- the line that a direction takes is the block's, or one that is there before it
-before-in : (there : Bool) (start back k n : ℕ) → back ≤ 1 → (there ≡ true → 1 ≤ start) → k < n
+pub before-in : (there : Bool) (start back k n : ℕ) → back ≤ 1 → (there ≡ true → 1 ≤ start) → k < n
     → (start - reach there back ≤ before there start back k) × (before there start back k < start + n)
 before-in true start back k n one h l = go (ltb k back)
   where
