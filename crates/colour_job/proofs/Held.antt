@@ -17,9 +17,11 @@ use Rattle.colour_terms.specs.Terms.{entry}
 use Rattle.colour_samples.specs.Sample.{inRange, inRangeAt}
 use Rattle.colour_sums.specs.Places.{counts}
 use Rattle.colour_sums.specs.Sum.{isReadable}
+use Rattle.colour_sums.specs.declared.window.Window.{Window}
 use Rattle.colour_sums.proofs.Counted.{counted}
 use Rattle.colour_sums.proofs.Same.{sums-same, readable-same, walk-all}
 use Rattle.colour_params.specs.Derived.{sampled}
+use Rattle.colour_params.specs.declared.Derived.{Derived}
 use Rattle.colour_rules.specs.Needed.{valueAt, centreAt, directionAt}
 use Rattle.colour_rules.specs.Rules.{isLumaInRange}
 use Rattle.colour_rules.proofs.Before.{rows-one, columns-one}
@@ -88,3 +90,9 @@ module _ {size W : ℕ} {c : ColourWords} (l : ColourLaid size W c) (luma chroma
     pub held-chroma : (p0 p1 p2 : ℤ) (r k : ℕ) → r < c .height → k < c .width
         → chromaAt (entry xs) (colourBlock c) p0 p1 p2 r k ≡ chromaAt (lumaIn W c luma) (colourBlock c) p0 p1 p2 r k
     held-chroma p0 p1 p2 r k a b = chroma-same (colourBlock c) (entry xs) (lumaIn W c luma) p0 p1 p2 r k (g .near k r b a) (g .own k r b a)
+
+    -- the same, by any name of what derivation is called with
+    pub held-derived : (ys : List ℤ) → ChromaHeld c (chromaIn W c chroma) ys → (w : Window) (d : ColourDirection) (n : ℕ) (r : Derived)
+        → w ≡ colourWindow c → d ≡ direction → n ≡ c .d → r ≡ sampled (entry xs) (entry ys) w d n
+        → r ≡ sampled (lumaIn W c luma) (chromaIn W c chroma) (colourWindow c) direction (c .d)
+    held-derived ys h w d n r ew ed en e = e ∙ (λ j. sampled (entry xs) (entry ys) (ew j) (ed j) (en j)) ∙ held-sampled ys h

@@ -4,3 +4,5 @@ pub mod Tested
 pub mod Read
 pub mod Same
 pub mod Held
+pub mod Block
+pub mod Answers

@@ -17,9 +17,13 @@ use Rattle.colour_terms.specs.Terms.{stride, entry}
 use Rattle.colour_samples.specs.Sample.{directionLuma}
 use Rattle.colour_sums.specs.Places.{counts, wide, high, rowsAbove, few}
 use Rattle.colour_sums.specs.declared.window.Window.{Window}
+use Rattle.colour_params.specs.Derived.{sampled}
+use Rattle.colour_params.specs.declared.Derived.{Derived}
 use Rattle.colour_rules.specs.Needed.{valueAt, centreAt, directionAt}
 use Rattle.colour_words.specs.declared.ColourWords.{ColourWords}
 use Rattle.colour_words.specs.Colour.{colourWindow, colourBlock}
+use Rattle.colour_words.specs.Placed.{ColourLaid}
+use Rattle.colour_job.specs.Windows.{lumaIn, chromaIn, lumaRead, chromaRead}
 
 -- the places that count inside the above lines, those below them, and the block
 abbrev pub aboveIn : Window → Patch
@@ -68,3 +72,16 @@ pub record LumaHeld (c : ColourWords) (f : ℕ → ℕ → ℤ) (xs : List ℤ) 
   pub own : (i j : ℕ) → i < c .width → j < c .height → valueAt (entry xs) (centreAt (colourBlock c) i j) ≡ valueAt f (centreAt (colourBlock c) i j)
   pub near : (i j : ℕ) → i < c .width → j < c .height
       → valueAt (entry xs) (directionAt (colourBlock c) i j) ≡ valueAt f (directionAt (colourBlock c) i j)
+
+-- the planes of a job whose samples passed 8
+pub record Passed (W : ℕ) (c : ColourWords) (luma chroma : List Float) : Type 0 where
+  pub laid : ColourLaid (length luma) W c
+  pub same : length chroma ≡ length luma
+  pub luma-in : lumaRead W c luma ≡ true
+  pub chroma-in : chromaRead W c chroma ≡ true
+
+-- what derivation leaves: its result, and luma's list
+pub record Given (W : ℕ) (c : ColourWords) (luma chroma : List Float) (before after : List ℤ) (r : Derived) : Type 0 where
+  pub is : r ≡ sampled (lumaIn W c luma) (chromaIn W c chroma) (colourWindow c) (theColour (c .direction)) (c .d)
+  pub long : length after ≡ length before
+  pub held : LumaHeld c (lumaIn W c luma) after
