@@ -5,14 +5,18 @@ use mathlib.Core.List.{List}
 use Prim.Native.Nat.{ℕ, _+_, _*_, _≤_, _<_}
 use native.Mathlib.Omega.{arith}
 use lib.IntN.{ℤ, pos, negsuc}
+use lib.Ieee.{Float}
 use lib.Signed.{ltZ}
 use lib.ListN.{length, getD}
 use Rattle.numbers.specs.Depth.{isDepth, most}
 use Rattle.signed.specs.Range.{inside, Edge}
 use Rattle.signed.proofs.Order.{ltZ-false}
 use Rattle.signed.proofs.Range.{pos-inside, inside-more}
+use Rattle.lists.specs.Block.{sample}
 use Rattle.lists.proofs.Fill.{length-filled, filled-at}
 use Rattle.lists.proofs.Block.{rows-at}
+use Rattle.paint.specs.Painted.{painted}
+use Rattle.paint.proofs.Painted.{painted-same}
 use Rattle.colour_terms.specs.Terms.{entry}
 use Rattle.colour_terms.proofs.Most.{most-all}
 use Rattle.colour_row.specs.Sample.{clipTo, clipped}
@@ -43,6 +47,19 @@ module _ (luma : List ℤ) (b : Block) (p0 p1 p2 : ℤ) (out : List ℤ) where
   unfolding chromaBlock
   block-edge d i l = ap (inside (pos 4095)) (filled-at (b .height * b .width) _ out i (pos 0) l) ∙ clipped-in (b .d) _ d
 
-  pub block-at : (r k : ℕ) → r < b .height → k < b .width → getD (chromaBlock luma b p0 p1 p2 out) (r * b .width + k) (pos 0) ≡ chromaAt (entry luma) b p0 p1 p2 r k
+  block-at : (r k : ℕ) → r < b .height → k < b .width → getD (chromaBlock luma b p0 p1 p2 out) (r * b .width + k) (pos 0) ≡ chromaAt (entry luma) b p0 p1 p2 r k
   unfolding chromaBlock
   block-at r k hr hk = rows-at (b .width) (b .height) (chromaAt (entry luma) b p0 p1 p2) out r k (pos 0) hr hk
+
+-- ---- as the code comes by it: zs is what prediction left, by any name of what it was called with
+module _ (luma : List ℤ) (b : Block) (p0 p1 p2 : ℤ) (out zs : List ℤ) where
+  pub block-as : (a : Block) (q0 q1 q2 : ℤ) → a ≡ b → q0 ≡ p0 → q1 ≡ p1 → q2 ≡ p2 → zs ≡ chromaBlock luma a q0 q1 q2 out → zs ≡ chromaBlock luma b p0 p1 p2 out
+  block-as a q0 q1 q2 e e0 e1 e2 h = h ∙ (λ j. chromaBlock luma (e j) (e0 j) (e1 j) (e2 j) out)
+
+  -- a rectangle that is written with its numbers
+  pub block-painted : (W x y : ℕ) (plane after : List Float) → zs ≡ chromaBlock luma b p0 p1 p2 out
+      → after ≡ painted W (record { x = x; y = y; w = b .width; h = b .height }) (λ r k. sample (getD zs (r * b .width + k) (pos 0))) plane
+      → after ≡ painted W (record { x = x; y = y; w = b .width; h = b .height }) (λ r k. sample (chromaAt (entry luma) b p0 p1 p2 r k)) plane
+  block-painted W x y plane after e h =
+      h ∙ painted-same W _ _ _ plane (λ r k a c.
+      ap sample (ap (λ (l : List ℤ). getD l (r * b .width + k) (pos 0)) e ∙ block-at luma b p0 p1 p2 out r k a c))

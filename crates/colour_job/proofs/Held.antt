@@ -1,8 +1,8 @@
 -- A job's windows: what passed 8 is in range for derivation and for prediction, and what was read gives what the planes give. Assumes nothing.
-use mathlib.Core.Path.{_≡_, refl, sym, _∙_, ap}
-use mathlib.Core.Bool.{Bool, true, cond, _&&_}
+use mathlib.Core.Path.{_≡_, refl, _∙_, ap}
+use mathlib.Core.Bool.{Bool, true, _&&_}
 use mathlib.Core.List.{List}
-use Prim.Native.Nat.{ℕ, _+_, _-_, _*_, _≤_, _<_}
+use Prim.Native.Nat.{ℕ, _+_, _-_, _*_, _<_}
 use native.Mathlib.Omega.{arith}
 use lib.IntN.{ℤ, pos}
 use lib.Ieee.{Float}
@@ -30,10 +30,10 @@ use Rattle.colour_words.specs.declared.ColourWords.{ColourWords}
 use Rattle.colour_words.specs.Colour.{colourWindow, colourBlock}
 use Rattle.colour_words.specs.Placed.{ColourLaid}
 use Rattle.colour_job.specs.Windows.{lumaIn, chromaIn, lumaRead, chromaRead}
-use Rattle.colour_job.specs.Held.{ChromaHeld, LumaHeld}
-use Rattle.colour_job.proofs.Read.{before-in}
+use Rattle.colour_windows.specs.Held.{ChromaHeld, LumaHeld}
+use Rattle.colour_windows.proofs.Read.{before-in}
 use Rattle.colour_job.proofs.Same.{sampled-same, chroma-same}
-use Rattle.colour_job.proofs.Tested.{luma-at, chroma-at}
+use Rattle.colour_windows.proofs.Tested.{luma-at, chroma-at}
 
 module _ {size W : ℕ} {c : ColourWords} (l : ColourLaid size W c) (luma chroma : List Float) where
   abbrev direction : ColourDirection
@@ -41,11 +41,13 @@ module _ {size W : ℕ} {c : ColourWords} (l : ColourLaid size W c) (luma chroma
 
   -- ---- what passed 8
   luma-range : lumaRead W c luma ≡ true → (i j : ℕ) → i < c .«ref_width» → j < c .«ref_height» → inside (pos (8 * most (c .d) + 7)) (lumaIn W c luma i j) ≡ true
+  unfolding lumaRead
   luma-range e i j a b =
       let m = reading-most (c .d) _ (l .placed .is-depth) (luma-at W c luma e i j a b) in
       pos-inside (8 * most (c .d) + 7) _ (omega arith)
 
   chroma-range : chromaRead W c chroma ≡ true → (i j : ℕ) → counts (colourWindow c) i j ≡ true → inside (pos (most (c .d))) (chromaIn W c chroma i j) ≡ true
+  unfolding chromaRead
   chroma-range e i j k = pos-inside (most (c .d)) _ (reading-most (c .d) _ (l .placed .is-depth) (chroma-at W c chroma e i j k))
 
   -- 13 cannot arise: what derivation needs is in range

@@ -1,7 +1,4 @@
--- Laws of the windows' places, of what was tested and read, and of what the parameters and the block hang on.
-pub mod Rects
-pub mod Tested
-pub mod Read
+-- Laws of what a job's answer and its block hang on, and of the answer.
 pub mod Same
 pub mod Held
 pub mod Block

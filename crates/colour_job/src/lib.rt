@@ -1,11 +1,9 @@
 // A colour job over a luma plane and a chroma plane (document 02, request (v)): its samples are tested, those that are used are read into two windows,
 // and the block that their parameters predict is written into the chroma plane.
-mod chroma;
-mod luma;
-mod places;
-
 use colour_block::block;
 use colour_params::Derived;
+use colour_windows::chroma;
+use colour_windows::luma;
 use colour_words::ColourWords;
 use elimination::Params;
 use numbers::answer::Answer;
@@ -29,7 +27,8 @@ ghost use Rattle.colour_words.specs.Colour.{colourBlock, colourRect};
 ghost use Rattle.colour_words.specs.Placed.{ColourLaid};
 ghost use Rattle.colour_job.specs.Windows.{lumaRead, chromaRead, colourAnswer};
 ghost use Rattle.colour_job.specs.Done.{colourDone};
-ghost use Rattle.colour_job.specs.Held.{Room, Passed, Given};
+ghost use Rattle.colour_windows.specs.Held.{Room};
+ghost use Rattle.colour_job.specs.Passed.{Passed, Given};
 
 // The depth whose D the word is.
 fn depth_of(d: u16) -> Depth

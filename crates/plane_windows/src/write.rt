@@ -1,8 +1,7 @@
 // A block of whole numbers is written into a plane as f32 samples (document 02, request (v): "It writes width by height samples at x, y").
 use crate::patch::Patch;
 ghost use mathlib.Core.Path.{_≡_};
-ghost use mathlib.Core.Bool.{true};
-ghost use Prim.Native.Nat.{ℕ, _+_, _*_, _≤_, _<_};
+ghost use Prim.Native.Nat.{_+_, _*_, _≤_, _<_};
 ghost use lib.IntN.{pos};
 ghost use lib.ListN.{length, getD};
 ghost use Rattle.signed.specs.Range.{Edge};

@@ -2,29 +2,18 @@
 use borrow.Author.Needs.{needs, sfits-of}
 use borrow.Author.Tests.{not-true, not-false}
 use mathlib.Core.Path.{_≡_, refl, sym, _∙_, ap, subst}
-use mathlib.Core.Bool.{true, _&&_}
-use mathlib.Core.List.{List}
-use Prim.Native.Nat.{ℕ, _*_, _≤_}
+use Prim.Native.Nat.{ℕ}
 use native.Mathlib.Omega.{arith}
 use lib.IntN.{pos}
-use lib.ListN.{length}
 use mir.Syntax.{w32}
 use Rattle.numbers.specs.Answer.{isDone}
 use Rattle.numbers.specs.Depth.{most}
 use Rattle.signed.proofs.Bound.{back}
-use Rattle.signed.proofs.Range.{and-both}
-use Rattle.lists.specs.Block.{sample}
-use Rattle.refusals.proofs.Promise.{refused, finished}
-use Rattle.paint.specs.Painted.{painted}
-use Rattle.paint.proofs.Painted.{painted-same}
-use Rattle.elimination.specs.declared.Params.{Params}
-use Rattle.colour_words.specs.Colour.{colourRect}
 use Rattle.colour_words.specs.Placed.{ColourLaid}
-use Rattle.colour_job.specs.Windows.{lumaRead, chromaRead, colourAnswer}
-use Rattle.colour_job.specs.Done.{givenAt, colourAt, colourDone}
-use Rattle.colour_job.specs.Held.{Passed}
-use Rattle.colour_job.proofs.Answers.{answer-eight, answer-fourteen, params-are, painted-is}
-use Rattle.colour_job.proofs.Held.{held-in-range, held-chroma}
+use Rattle.colour_job.specs.Windows.{colourAnswer}
+use Rattle.colour_job.specs.Passed.{Passed}
+use Rattle.colour_job.proofs.Answers.{answer-eight, passed-eight, answer-fourteen, params-are, painted-is, refused-job, finished-job}
+use Rattle.colour_job.proofs.Held.{held-in-range}
 use Rattle.colour_job.proofs.do_colour.Statement.{statement}
 use Rattle.colour_job.proofs.do_colour.Tie as tie
 
@@ -44,11 +33,12 @@ same-length : tie.Need-same-length
 same-length c = search needs
 
 returns : tie.Need-returns
-unfolding colourDone isDone
+unfolding isDone
 returns c =
     let k = c .before in
     let a = k .before .before .before .before .before .before .args in
-    refused _ _ (answer-eight (a .width) (a .c) (a .luma .now) (a .chroma .now) (sym (k .all-read .ensures) ∙ not-true (k .all-read .result) (c .if1 .taken))) refl
+    refused-job (a .width) (a .c) (a .luma .now) (a .chroma .now)
+    (answer-eight (a .width) (a .c) (a .luma .now) (a .chroma .now) (k .all-read .result) (k .all-read .ensures) (not-true (k .all-read .result) (c .if1 .taken))) refl
 
 -- what a job that passed 8 has
 module _ (c : tie.Else1) where
@@ -58,8 +48,8 @@ module _ (c : tie.Else1) where
   passed : Passed (s .args .width) (s .args .c) (s .args .luma .now) (s .args .chroma .now)
   passed =
       let k = c .before in
-      let p = and-both _ _ (sym (k .all-read .ensures) ∙ not-false (k .all-read .result) (c .if1 .left)) in
-      record { laid = s .pre .0 .0; same = s .pre .0 .1; luma-in = p .0; chroma-in = p .1 }
+      passed-eight (s .args .width) (s .args .c) (s .args .luma .now) (s .args .chroma .now) (k .all-read .result) (k .all-read .ensures)
+      (not-false (k .all-read .result) (c .if1 .left)) (s .pre .0 .0) (s .pre .0 .1)
 
 derive-requires : tie.Need-derive-requires
 derive-requires c κs =
@@ -90,10 +80,10 @@ module _ (c : tie.After-is-done) where
   answer-is = answer-fourteen (s e .args .width) (s e .args .c) (s e .args .luma .now) (s e .args .chroma .now) (passed e) (d .derive .ensures)
 
 returns-2 : tie.Need-returns-2
-unfolding colourDone
 returns-2 c =
     let k = c .before in
-    refused _ _ (answer-is k) (sym (k .is-done .ensures) ∙ not-true (k .is-done .result) (c .if2 .taken))
+    let a = s (e k) .args in
+    refused-job (a .width) (a .c) (a .luma .now) (a .chroma .now) (answer-is k) (sym (k .is-done .ensures) ∙ not-true (k .is-done .result) (c .if2 .taken))
 
 write-block-requires : tie.Need-write-block-requires
 write-block-requires c κs =
@@ -118,7 +108,6 @@ same-length-8 : tie.Need-same-length-8
 same-length-8 c = search needs
 
 returns-3 : tie.Need-returns-3
-unfolding colourDone
 returns-3 c =
     let w = c .before .before .before in
     let f = w .before .before .before .before .before in
@@ -126,7 +115,7 @@ returns-3 c =
     let t = s (e k) in
     let g = d k .derive .ensures in
     let done = sym (k .is-done .ensures) ∙ not-false (k .is-done .result) (f .if2 .left) in
-    finished _ _ (answer-is k) done
+    finished-job (t .args .width) (t .args .c) (t .args .luma .now) (t .args .chroma .now) (answer-is k) done
     (painted-is (t .args .width) (t .args .c) (t .args .luma .now) (t .args .chroma .now) (passed (e k) .laid) _ (g .held) _
     (params-are (t .args .width) (t .args .c) (t .args .luma .now) (t .args .chroma .now) g done) _ (w .write-block .ensures))
 

@@ -2,22 +2,20 @@
 use borrow.Author.Needs.{needs, sfits-of}
 use mathlib.Core.Path.{_≡_, sym, _∙_, ap, subst}
 use mathlib.Core.List.{List}
-use Prim.Native.Nat.{ℕ, _+_, _*_, _≤_}
+use Prim.Native.Nat.{_*_, _≤_}
 use native.Mathlib.Nat.{mul-comm}
 use native.Mathlib.Omega.{arith}
-use lib.IntN.{ℤ, pos}
-use lib.ListN.{length, getD}
+use lib.IntN.{ℤ}
+use lib.ListN.{length}
 use mir.Syntax.{w32}
 use mir.Facts.{toZ-ofZ}
 use Rattle.signed.specs.Range.{Edge}
-use Rattle.lists.specs.Block.{sample}
-use Rattle.paint.proofs.Painted.{painted-same}
 use Rattle.colour_rules.specs.declared.block.Block.{Block}
 use Rattle.colour_block.specs.Accepted.{BlockAccepted}
 use Rattle.colour_block.specs.Predicted.{chromaBlock}
-use Rattle.colour_words.specs.Colour.{colourBlock, colourRect}
-use Rattle.colour_job.proofs.Rects.{in-reference}
-use Rattle.colour_job.proofs.Block.{block-length, block-edge, block-at}
+use Rattle.colour_words.specs.Colour.{colourBlock}
+use Rattle.colour_windows.proofs.Rects.{in-reference}
+use Rattle.colour_job.proofs.Block.{block-length, block-edge, block-as, block-painted}
 use Rattle.colour_job.proofs.write_block.Statement.{statement}
 use Rattle.colour_job.proofs.write_block.Tie as tie
 
@@ -60,7 +58,8 @@ module _ (c : tie.After-predict-into) where
       let x0 = toZ-ofZ {w = w32} {z = s .args .p .x0} (sfits-of (g .0 .1)) in
       let x1 = toZ-ofZ {w = w32} {z = s .args .p .x1} (sfits-of (g .1 .0 .1)) in
       let x2 = toZ-ofZ {w = w32} {z = s .args .p .x2} (sfits-of (g .1 .1 .0 .1)) in
-      c .predict-into .ensures ∙ (λ j. chromaBlock (s .args .luma-window .now) (k .block .ensures j) (x0 j) (x1 j) (x2 j) (s .args .out .now))
+      block-as (s .args .luma-window .now) (colourBlock (s .args .c)) (s .args .p .x0) (s .args .p .x1) (s .args .p .x2) (s .args .out .now) _ _ _ _ _ (k .block .ensures) x0 x1 x2
+      (c .predict-into .ensures)
 
 cast-t12 : tie.Need-cast-t12
 cast-t12 c = search needs
@@ -97,10 +96,8 @@ returns c =
     let w = c .before .before in
     let q = w .before .before .before .before .before .before .before .before in
     let a = s q .args in
-    w .write-patch .ensures
-    ∙ painted-same (a .width) (colourRect (a .c)) _ _ (a .chroma .now) (λ r i h l.
-    ap sample (ap (λ (zs : List ℤ). getD zs (r * a .c .width + i) (pos 0)) (out-is q)
-    ∙ block-at (a .luma-window .now) (colourBlock (a .c)) (a .p .x0) (a .p .x1) (a .p .x2) (a .out .now) r i h l))
+    block-painted (a .luma-window .now) (colourBlock (a .c)) (a .p .x0) (a .p .x1) (a .p .x2) (a .out .now) _ (a .width) (a .c .x) (a .c .y) (a .chroma .now) _ (out-is q)
+    (w .write-patch .ensures)
 
 pub write-block-spec : {M : Type 1} → statement M
 write-block-spec =

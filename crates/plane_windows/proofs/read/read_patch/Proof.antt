@@ -5,13 +5,12 @@ use native.Mathlib.Omega.{arith}
 use mathlib.Core.Path.{_≡_, refl, sym, _∙_, ap, subst}
 use lib.IntN.{natAbs}
 use lib.Ieee.{nan}
-use lib.ListN.{length, getD}
+use lib.ListN.{getD}
 use mir.Syntax.{w32}
 use mir.Val.{toZ, ofZ}
 use mir.Facts.{toZ-ofZ}
 use Rattle.lists.proofs.Block.{part-length}
 use Rattle.samples.specs.Sample.{Readable}
-use Rattle.colour_terms.specs.Terms.{stride}
 use Rattle.plane_windows.specs.Into.{readAt, Into}
 use Rattle.plane_windows.proofs.Lies.{part-at, first-most, start-most}
 use Rattle.plane_windows.proofs.Into.{into-none}

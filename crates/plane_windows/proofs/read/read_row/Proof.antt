@@ -1,5 +1,5 @@
 -- `read_row` meets its contract. The invariant: the first i entries are read. Assumes nothing.
-use Prim.Native.Nat.{ℕ, _*_, _≤_, _<_, _-_}
+use Prim.Native.Nat.{ℕ, _*_, _≤_, _-_}
 use native.Mathlib.Omega.{arith}
 use mathlib.Core.Path.{_≡_, refl, sym, _∙_, ap}
 use lib.IntN.{ℤ, pos, natAbs, _*ℤ_}

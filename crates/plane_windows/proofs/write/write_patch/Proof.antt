@@ -2,11 +2,8 @@
 use Prim.Native.Nat.{_+_, _-_, _*_}
 use native.Mathlib.Nat.{add-mul}
 use native.Mathlib.Omega.{arith}
-use mathlib.Core.Path.{_≡_, refl, sym, _∙_, ap, subst}
-use mathlib.Core.Bool.{true}
+use mathlib.Core.Path.{_≡_, refl, sym, _∙_, ap}
 use lib.IntN.{pos}
-use lib.ListN.{length, getD}
-use Rattle.signed.specs.Range.{inside}
 use Rattle.lists.proofs.Block.{part-length}
 use Rattle.paint.specs.Painted.{painted}
 use Rattle.paint.proofs.RowByRow.{rowsOf, painted-none}
