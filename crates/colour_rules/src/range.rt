@@ -50,7 +50,7 @@ fn area_in_range(luma: &[i32], s: usize, width: usize, height: usize, m: i32) ->
 }
 
 // So many rows above the block are needed.
-fn up_of(b: Block) -> usize
+pub fn up_of(b: Block) -> usize
     requires { ⌜ isColour (b .direction) ≡ true ⌝ }
     ensures { λ r. ⌜ r ≡ upOf b ⌝ }
 {
@@ -58,7 +58,7 @@ fn up_of(b: Block) -> usize
 }
 
 // So many columns before it are needed.
-fn beside_of(b: Block) -> usize
+pub fn beside_of(b: Block) -> usize
     requires { ⌜ isColour (b .direction) ≡ true ⌝ }
     ensures { λ r. ⌜ r ≡ besideOf b ⌝ }
 {

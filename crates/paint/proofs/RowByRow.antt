@@ -7,34 +7,16 @@ use native.Mathlib.Decide.{decLt}
 use native.Mathlib.Omega.{arith}
 use lib.Arith.{digits-div, digits-mod}
 use lib.Ieee.{Float, nan}
-use lib.ListN.{length, getD, take, drop, length-append, length-take, length-drop, List·getD-append}
-use lib.Seq.{getD-take, getD-drop, getD-append-add, ext-getD}
+use lib.ListN.{length, getD}
+use lib.Seq.{ext-getD}
 use borrow.Rule.Slice.PartMut.{putMid}
 use Rattle.edge_line.proofs.Split.{below-or}
 use Rattle.reorder.specs.Rect.{Rect, In}
 use Rattle.reorder.proofs.Test.{decided}
 use Rattle.reorder.proofs.Rect.{in-decides}
 use Rattle.paint.specs.Painted.{painted}
+use Rattle.paint.proofs.Middle.{mid-length, mid-before, mid-in, mid-after}
 use Rattle.paint.proofs.Painted.{painted-length, painted-in, painted-out}
-
--- w samples from o on are exchanged
-mid-length : (o w : ℕ) (ys row : List Float) → o + w ≤ length ys → length row ≡ w → length (putMid o w ys row) ≡ length ys
-mid-length o w ys row h e = simp (length-append, length-take, length-drop) (omega arith)
-
-mid-before : (o w : ℕ) (ys row : List Float) (p : ℕ) → o + w ≤ length ys → p < o → getD (putMid o w ys row) p nan ≡ getD ys p nan
-mid-before o w ys row p h l = List·getD-append (take o ys) _ nan p (simp (length-take) (omega arith)) ∙ getD-take o ys p nan l
-
-mid-in : (o w : ℕ) (ys row : List Float) (i : ℕ) → o + w ≤ length ys → length row ≡ w → i < w → getD (putMid o w ys row) (o + i) nan ≡ getD row i nan
-mid-in o w ys row i h e l =
-    let t : length (take o ys) ≡ o = simp (length-take) (omega arith) in
-    ap (λ k. getD (putMid o w ys row) (k + i) nan) (sym t) ∙ getD-append-add (take o ys) _ i nan ∙ List·getD-append row _ nan i (omega arith)
-
-mid-after : (o w : ℕ) (ys row : List Float) (p : ℕ) → o + w ≤ length ys → length row ≡ w → o + w ≤ p → getD (putMid o w ys row) p nan ≡ getD ys p nan
-mid-after o w ys row p h e l =
-    let t : length (take o ys) ≡ o = simp (length-take) (omega arith) in
-    let q : p ≡ length (take o ys) + (length row + (p - (o + w))) = omega arith in
-    ap (λ k. getD (putMid o w ys row) k nan) q
-    ∙ getD-append-add (take o ys) _ _ nan ∙ getD-append-add row _ _ nan ∙ getD-drop w (drop o ys) (p - (o + w)) nan ∙ getD-drop o ys (w + (p - (o + w))) nan ∙ ap (λ k. getD ys k nan) (omega arith)
 
 -- a rectangle of h rows
 abbrev pub rowsOf : ℕ → ℕ → ℕ → ℕ → Rect
@@ -95,8 +77,8 @@ module _ (W x y w : ℕ) (wide : x + w ≤ W) (f : ℕ → ℕ → Float) (plane
         (λ p l. at-place p (omega (arith, l, mid-length o w old row fits n, painted-length W (rowsOf x y w h) f plane)) (below-or p o) (below-or p (o + w)))
       where
         at-place : (p : ℕ) → p < length plane → (p < o) ⊎ (o ≤ p) → (p < o + w) ⊎ (o + w ≤ p) → getD (putMid o w old row) p nan ≡ getD new p nan
-        at-place p l (inl k) e = mid-before o w old row p fits k ∙ beyond p l (upper p (inl k))
+        at-place p l (inl k) e = mid-before o w old row p nan fits k ∙ beyond p l (upper p (inl k))
         at-place p l (inr k) (inl e) =
             let q : p ≡ o + (p - o) = omega arith in
-            ap (λ t. getD (putMid o w old row) t nan) q ∙ mid-in o w old row (p - o) fits n (omega arith) ∙ within (p - o) (omega arith) ∙ ap (λ t. getD new t nan) (sym q)
-        at-place p l (inr k) (inr e) = mid-after o w old row p fits n e ∙ beyond p l (upper p (inr e))
+            ap (λ t. getD (putMid o w old row) t nan) q ∙ mid-in o w old row (p - o) nan fits n (omega arith) ∙ within (p - o) (omega arith) ∙ ap (λ t. getD new t nan) (sym q)
+        at-place p l (inr k) (inr e) = mid-after o w old row p nan fits n e ∙ beyond p l (upper p (inr e))
