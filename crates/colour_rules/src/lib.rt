@@ -1,7 +1,7 @@
 // The tests of a colour prediction, 2, 10, 11, 12, 9, 13 in that order (document 01, Refusal numbers), and the block that they are of.
 pub mod block;
 pub mod place;
-mod range;
+pub mod range;
 
 use crate::block::Block;
 use colour_terms::reference;
