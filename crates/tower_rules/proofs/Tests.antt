@@ -12,7 +12,7 @@ use Rattle.block_spec.specs.Rules.{isPlane}
 use Rattle.block_spec.proofs.Placed.{plane-is}
 use Rattle.reorder.specs.Check.{onceB}
 use Rattle.tower_order.specs.Rules.{towerJobsIn}
-use Rattle.tower_order.specs.Rows.{TowerWalk}
+use Rattle.tower_order.specs.Tables.{TowerWalk}
 use Rattle.tower_rules.specs.Rules.{arePlanes, isTowerPlan}
 
 -- 20 of each plane
