@@ -26,8 +26,12 @@ max-requires c κs = search needs
 all-read-requires : tie.Need-all-read-requires
 all-read-requires c κs =
     let d = c .before .before in
-    let s = d .before .before .before in
-    (s .pre .0 .0, s .pre .0 .1, back w32 {z = c .max .result} (sfits-of (c .max .ok)) ∙ c .max .ensures ∙ ap (λ n. pos (most n)) (d .depth-of .ensures))
+    let s = d .before .before .before in (
+      s .pre .0 .0,
+      s .pre .0 .1,
+      back w32 {z = c .max .result} (sfits-of (c .max .ok)) ∙ c .max .ensures ∙ ap (λ n. pos (most n))
+          (d .depth-of .ensures),
+    )
 
 same-length : tie.Need-same-length
 same-length c = search needs
@@ -38,7 +42,8 @@ returns c =
     let k = c .before in
     let a = k .before .before .before .before .before .before .args in
     refused-job (a .width) (a .c) (a .luma .now) (a .chroma .now)
-    (answer-eight (a .width) (a .c) (a .luma .now) (a .chroma .now) (k .all-read .result) (k .all-read .ensures) (not-true (k .all-read .result) (c .if1 .taken))) refl
+    (answer-eight (a .width) (a .c) (a .luma .now) (a .chroma .now) (k .all-read .result) (k .all-read .ensures)
+    (not-true (k .all-read .result) (c .if1 .taken))) refl
 
 derive-requires : tie.Need-derive-requires
 derive-requires c κs =
@@ -61,7 +66,8 @@ returns-2 : tie.Need-returns-2
 returns-2 c =
     let k = c .before in
     let a = s (e k) .args in
-    refused-job (a .width) (a .c) (a .luma .now) (a .chroma .now) (answer-is k) (sym (k .is-done .ensures) ∙ not-true (k .is-done .result) (c .if2 .taken))
+    refused-job (a .width) (a .c) (a .luma .now) (a .chroma .now) (answer-is k)
+    (sym (k .is-done .ensures) ∙ not-true (k .is-done .result) (c .if2 .taken))
 
 write-block-requires : tie.Need-write-block-requires
 write-block-requires c κs =

@@ -85,8 +85,10 @@ returns c =
     let s = k .before .before in
     let a = s .args in
     let e : k .loop .j ≡ a .p .h = omega arith in
-    subst (λ n. Into (readAt (natAbs (a .times)) (a .width) (a .x) (a .y) (a .plane .now)) (a .p .x) (a .p .y) (a .p .w) n (a .window .now) (k .loop .window)) e
-    (subst (λ z. Into (readAt (natAbs z) (a .width) (a .x) (a .y) (a .plane .now)) (a .p .x) (a .p .y) (a .p .w) (k .loop .j) (a .window .now) (k .loop .window))
+    subst (λ n. Into (readAt (natAbs (a .times)) (a .width) (a .x) (a .y) (a .plane .now)) (a .p .x) (a .p .y) (a .p .w) n (a .window .now)
+    (k .loop .window)) e
+    (subst (λ z. Into (readAt (natAbs z) (a .width) (a .x) (a .y) (a .plane .now)) (a .p .x) (a .p .y) (a .p .w) (k .loop .j) (a .window .now)
+    (k .loop .window))
     (toZ-ofZ (s .fits .times)) (k .loop .inv .4))
 
 pub read-patch-spec : {M : Type 1} → statement M

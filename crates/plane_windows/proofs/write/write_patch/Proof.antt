@@ -22,8 +22,14 @@ add-o c = omega (arith, first-most (c .before .pre .0))
 loop-holds : tie.Need-loop-holds Inv-loop μ-loop
 loop-holds c =
     let a = c .before .args in
-    let z : a .p .y + 0 ≡ a .p .y = omega arith in
-    (omega arith, ap (λ t. t * a .width + a .p .x) (sym z), omega arith, refl, sym (painted-none (a .width) (a .p .x) (a .p .y) (a .p .w) (c .before .pre .0 .across) _ _))
+    let z : a .p .y + 0 ≡ a .p .y = omega arith in (
+      omega arith,
+      ap (λ t. t * a .width + a .p .x) (sym z),
+      omega arith,
+      refl,
+      sym
+          (painted-none (a .width) (a .p .x) (a .p .y) (a .p .w) (c .before .pre .0 .across) _ _),
+    )
 
 add-e : tie.Need-add-e Inv-loop μ-loop
 add-e c = omega (arith, near c)
@@ -63,7 +69,11 @@ write-row-requires c κs =
     let w = s .args .p .w in
     let n = part-length (k .loop .o) w (k .loop .plane) (room i) in
     let m = part-length (k .loop .k) w (s .args .from .now) (lent i) in
-    simp (n, m) (omega arith, λ j h. rw (part-at (k .loop .k) w (s .args .from .now) j (pos 0) h) (s .pre .1 .1 (k .loop .k + j) (omega (arith, inside-block i))))
+    simp (n, m) (
+      omega arith,
+      λ j h. rw (part-at (k .loop .k) w (s .args .from .now) j (pos 0) h)
+          (s .pre .1 .1 (k .loop .k + j) (omega (arith, inside-block i))),
+    )
 
 add-o-2 : tie.Need-add-o-2 Inv-loop μ-loop
 add-o-2 c =

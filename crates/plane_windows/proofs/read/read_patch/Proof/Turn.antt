@@ -33,7 +33,8 @@ read-row-requires c κs =
     simp (n, m, toZ-ofZ, s .fits .times) (
       (omega arith, s .pre .1 .0),
       λ t h. rw (part-at (k .loop .o) w (s .args .plane .now) t nan h) (
-          subst (λ q. Readable (getD (s .args .plane .now) q nan)) (omega (arith, k .loop .inv .1)) (s .pre .1 .1 t (k .loop .j) h (i .loop-test .taken))),
+          subst (λ q. Readable (getD (s .args .plane .now) q nan)) (omega (arith, k .loop .inv .1))
+          (s .pre .1 .1 t (k .loop .j) h (i .loop-test .taken))),
     )
 
 pub loop-again : tie.Need-loop-again Inv-loop μ-loop
