@@ -43,18 +43,21 @@ module _ (W : ℕ) (c : ColourWords) (luma chroma : List Float) where
         record { laid = l; same = n; luma-in = p .0; chroma-in = p .1 }
 
   -- 14, or done: what derivation answered
-  pub answer-fourteen : {xs ys : List ℤ} {r : Derived} → Passed W c luma chroma → Given W c luma chroma xs ys r → r .answer ≡ colourAnswer W c luma chroma
+  pub answer-fourteen : {xs ys : List ℤ} {r : Derived} → Passed W c luma chroma → Given W c luma chroma xs ys r
+      → r .answer ≡ colourAnswer W c luma chroma
   unfolding colourAnswer colourSmall
   answer-fourteen p g =
       ap (λ (d : Derived). d .answer) (g .is)
-      ∙ no-thirteen (colourWindow c) (theColour (c .direction)) (c .d) (lumaIn W c luma) (chromaIn W c chroma) (read-readable (p .laid) luma chroma (p .luma-in) (p .chroma-in))
+      ∙ no-thirteen (colourWindow c) (theColour (c .direction)) (c .d) (lumaIn W c luma) (chromaIn W c chroma)
+      (read-readable (p .laid) luma chroma (p .luma-in) (p .chroma-in))
       ∙ sym (λ j. cond (p .luma-in j && p .chroma-in j) (cond (colourSmall W c luma chroma) Done SumTooLarge) BadSample)
 
   -- its parameters
   pub params-are : {xs ys : List ℤ} {r : Derived} → Given W c luma chroma xs ys r → isDone (r .answer) ≡ true → r .params ≡ colourParams W c luma chroma
   params-are g e =
       ap (λ (d : Derived). d .params) (g .is)
-      ∙ sampled-params (colourWindow c) (theColour (c .direction)) (c .d) (lumaIn W c luma) (chromaIn W c chroma) (ap (λ (d : Derived). isDone (d .answer)) (sym (g .is)) ∙ e)
+      ∙ sampled-params (colourWindow c) (theColour (c .direction)) (c .d) (lumaIn W c luma) (chromaIn W c chroma)
+      (ap (λ (d : Derived). isDone (d .answer)) (sym (g .is)) ∙ e)
 
   -- and what they write, by luma's list
   pub painted-is : {size : ℕ} → ColourLaid size W c → (xs : List ℤ) → LumaHeld c (lumaIn W c luma) xs → (p : Params) → p ≡ colourParams W c luma chroma

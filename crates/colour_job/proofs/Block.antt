@@ -47,13 +47,15 @@ module _ (luma : List ℤ) (b : Block) (p0 p1 p2 : ℤ) (out : List ℤ) where
   unfolding chromaBlock
   block-edge d i l = ap (inside (pos 4095)) (filled-at (b .height * b .width) _ out i (pos 0) l) ∙ clipped-in (b .d) _ d
 
-  block-at : (r k : ℕ) → r < b .height → k < b .width → getD (chromaBlock luma b p0 p1 p2 out) (r * b .width + k) (pos 0) ≡ chromaAt (entry luma) b p0 p1 p2 r k
+  block-at : (r k : ℕ) → r < b .height → k < b .width → getD (chromaBlock luma b p0 p1 p2 out) (r * b .width + k) (pos 0)
+      ≡ chromaAt (entry luma) b p0 p1 p2 r k
   unfolding chromaBlock
   block-at r k hr hk = rows-at (b .width) (b .height) (chromaAt (entry luma) b p0 p1 p2) out r k (pos 0) hr hk
 
 -- ---- as the code comes by it: zs is what prediction left, by any name of what it was called with
 module _ (luma : List ℤ) (b : Block) (p0 p1 p2 : ℤ) (out zs : List ℤ) where
-  pub block-as : (a : Block) (q0 q1 q2 : ℤ) → a ≡ b → q0 ≡ p0 → q1 ≡ p1 → q2 ≡ p2 → zs ≡ chromaBlock luma a q0 q1 q2 out → zs ≡ chromaBlock luma b p0 p1 p2 out
+  pub block-as : (a : Block) (q0 q1 q2 : ℤ) → a ≡ b → q0 ≡ p0 → q1 ≡ p1 → q2 ≡ p2 → zs ≡ chromaBlock luma a q0 q1 q2 out
+      → zs ≡ chromaBlock luma b p0 p1 p2 out
   block-as a q0 q1 q2 e e0 e1 e2 h = h ∙ (λ j. chromaBlock luma (e j) (e0 j) (e1 j) (e2 j) out)
 
   -- a rectangle that is written with its numbers

@@ -40,23 +40,27 @@ module _ {size W : ℕ} {c : ColourWords} (l : ColourLaid size W c) (luma chroma
   direction = theColour (c .direction)
 
   -- ---- what passed 8
-  luma-range : lumaRead W c luma ≡ true → (i j : ℕ) → i < c .«ref_width» → j < c .«ref_height» → inside (pos (8 * most (c .d) + 7)) (lumaIn W c luma i j) ≡ true
+  luma-range : lumaRead W c luma ≡ true → (i j : ℕ) → i < c .«ref_width» → j < c .«ref_height»
+      → inside (pos (8 * most (c .d) + 7)) (lumaIn W c luma i j) ≡ true
   unfolding lumaRead
   luma-range e i j a b =
       let m = reading-most (c .d) _ (l .placed .is-depth) (luma-at W c luma e i j a b) in
       pos-inside (8 * most (c .d) + 7) _ (omega arith)
 
-  chroma-range : chromaRead W c chroma ≡ true → (i j : ℕ) → counts (colourWindow c) i j ≡ true → inside (pos (most (c .d))) (chromaIn W c chroma i j) ≡ true
+  chroma-range : chromaRead W c chroma ≡ true → (i j : ℕ) → counts (colourWindow c) i j ≡ true
+      → inside (pos (most (c .d))) (chromaIn W c chroma i j) ≡ true
   unfolding chromaRead
   chroma-range e i j k = pos-inside (most (c .d)) _ (reading-most (c .d) _ (l .placed .is-depth) (chroma-at W c chroma e i j k))
 
   -- 13 cannot arise: what derivation needs is in range
-  pub read-readable : lumaRead W c luma ≡ true → chromaRead W c chroma ≡ true → isReadable (most (c .d)) direction (lumaIn W c luma) (chromaIn W c chroma) (colourWindow c) ≡ true
+  pub read-readable : lumaRead W c luma ≡ true → chromaRead W c chroma ≡ true
+      → isReadable (most (c .d)) direction (lumaIn W c luma) (chromaIn W c chroma) (colourWindow c) ≡ true
   unfolding inRangeAt inRange
   read-readable e d = walk-all (colourWindow c) (inRangeAt (most (c .d)) direction (lumaIn W c luma) (chromaIn W c chroma)) (λ x y k.
       let p = counted (colourWindow c) x y k in
       and-of _ _
-      (and-of _ _ (luma-range e (x - columnsLeft direction) (y - rowsUp direction) (omega arith) (omega arith)) (luma-range e x y (omega arith) (omega arith)))
+      (and-of _ _ (luma-range e (x - columnsLeft direction) (y - rowsUp direction) (omega arith) (omega arith))
+      (luma-range e x y (omega arith) (omega arith)))
       (chroma-range d x y k))
 
   -- nor in prediction
@@ -83,7 +87,8 @@ module _ {size W : ℕ} {c : ColourWords} (l : ColourLaid size W c) (luma chroma
 
     -- ---- what was read gives what the planes give
     pub held-sampled : (ys : List ℤ) → ChromaHeld c (chromaIn W c chroma) ys
-        → sampled (entry xs) (entry ys) (colourWindow c) direction (c .d) ≡ sampled (lumaIn W c luma) (chromaIn W c chroma) (colourWindow c) direction (c .d)
+        → sampled (entry xs) (entry ys) (colourWindow c) direction (c .d)
+        ≡ sampled (lumaIn W c luma) (chromaIn W c chroma) (colourWindow c) direction (c .d)
     held-sampled ys h =
         sampled-same (colourWindow c) direction (c .d) (entry xs) (lumaIn W c luma) (entry ys) (chromaIn W c chroma)
         (readable-same (most (c .d)) direction (entry xs) (lumaIn W c luma) (entry ys) (chromaIn W c chroma) (colourWindow c) (g .way) (g .centre) h)

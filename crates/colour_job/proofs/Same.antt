@@ -31,7 +31,8 @@ module _ (w : Window) (direction : ColourDirection) (D : ℕ) where
       let a : Answer = cond ok (cond (isSmall s) Done SumTooLarge) BadColourSample in
       record { answer = a; params = cond (isDone a) (paramsOf D (countOf w) s) zeros }
 
-  pub sampled-same : (luma luma′ chroma chroma′ : ℕ → ℕ → ℤ) → isReadable (most D) direction luma chroma w ≡ isReadable (most D) direction luma′ chroma′ w
+  pub sampled-same : (luma luma′ chroma chroma′ : ℕ → ℕ → ℤ) → isReadable (most D) direction luma chroma w
+      ≡ isReadable (most D) direction luma′ chroma′ w
       → sumsOf D direction luma chroma w ≡ sumsOf D direction luma′ chroma′ w
       → sampled luma chroma w direction D ≡ sampled luma′ chroma′ w direction D
   unfolding sampled windowParams

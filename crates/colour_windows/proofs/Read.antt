@@ -70,7 +70,8 @@ module _ {size W : ℕ} {c : ColourWords} (l : ColourLaid size W c) {f : ℕ →
         (subst (λ (s : ℕ). entry zs (x - left) (y - s) ≡ f (x - left) (y - s)) u (back x y k (counted-where (colourWindow c) x y k)));
   }
     where
-      at : (x y : ℕ) → counts (colourWindow c) x y ≡ true → Inside (aboveIn (colourWindow c)) x y ⊎ Inside (belowIn (colourWindow c)) x y → entry zs x y ≡ f x y
+      at : (x y : ℕ) → counts (colourWindow c) x y ≡ true → Inside (aboveIn (colourWindow c)) x y ⊎ Inside (belowIn (colourWindow c)) x y
+          → entry zs x y ≡ f x y
       at x y k (inl h) = b .into .kept x y (near-left l x y k) (centre-at a x y (rw e h))
       at x y k (inr h) = centre-at b x y (rw d h)
 
@@ -90,7 +91,8 @@ before-in true start back k n one h l = go (ltb k back)
     go false = (omega arith, omega (arith, h refl))
 before-in false start back k n one h l = go (ltb k back) refl
   where
-    go : (t : Bool) → ltb k back ≡ t → (start - 0 ≤ cond (t && true) (start + k) (start + k - back)) × (cond (t && true) (start + k) (start + k - back) < start + n)
+    go : (t : Bool) → ltb k back ≡ t → (start - 0 ≤ cond (t && true) (start + k) (start + k - back))
+        × (cond (t && true) (start + k) (start + k - back) < start + n)
     go true e = (omega arith, omega arith)
     go false e = let m = ltb-false k back e in (omega arith, omega arith)
 

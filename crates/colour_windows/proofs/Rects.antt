@@ -1,5 +1,5 @@
--- Rectangles of the windows: those with the places that count, that they lie in the windows, and that what lies in a window lies in its plane and in its
--- list. Assumes nothing.
+-- Rectangles of the windows: those with the places that count, that they lie in the windows, and that what lies in a window lies in its plane and
+-- in its list. Assumes nothing.
 use mathlib.Core.Path.{_≡_}
 use mathlib.Core.Bool.{Bool, true, false, _&&_, _||_}
 use mathlib.Core.Logic.{_⊎_, inl, inr}

@@ -44,7 +44,8 @@ all-at q p e i j h =
     let a : p .x + (i - p .x) ≡ i = omega arith in
     let b : p .y + (j - p .y) ≡ j = omega arith in
     (λ t. q (sym a t) (sym b t))
-    ∙ every-at (λ k. q (p .x + k) (p .y + (j - p .y))) (p .w) (every-at (λ r. every (λ k. q (p .x + k) (p .y + r)) (p .w)) (p .h) e (j - p .y) (omega arith)) (i - p .x) (omega arith)
+    ∙ every-at (λ k. q (p .x + k) (p .y + (j - p .y))) (p .w)
+    (every-at (λ r. every (λ k. q (p .x + k) (p .y + r)) (p .w)) (p .h) e (j - p .y) (omega arith)) (i - p .x) (omega arith)
 
 -- ---- a test of the places that count is a test of both their rectangles
 module _ (w : Window) (q : ℕ → ℕ → Bool) where
@@ -81,7 +82,9 @@ module _ (w : Window) (q : ℕ → ℕ → Bool) where
 -- ---- the two windows
 module _ (W : ℕ) (c : ColourWords) where
   pub luma-at : (luma : List Float) → lumaPasses W c luma ≡ true → (i j : ℕ) → i < c .«ref_width» → j < c .«ref_height» → lumaOk W c luma i j ≡ true
-  luma-at luma e i j a b = every-at (λ k. lumaOk W c luma k j) (c .«ref_width») (every-at (λ r. every (λ k. lumaOk W c luma k r) (c .«ref_width»)) (c .«ref_height») e j b) i a
+  luma-at luma e i j a b =
+      every-at (λ k. lumaOk W c luma k j) (c .«ref_width») (every-at (λ r. every (λ k. lumaOk W c luma k r) (c .«ref_width»))
+      (c .«ref_height») e j b) i a
 
   pub chroma-read-is : (chroma : List Float)
       → chromaPasses W c chroma ≡ (allOf (chromaOk W c chroma) (aboveIn (colourWindow c)) && allOf (chromaOk W c chroma) (belowIn (colourWindow c)))
@@ -92,10 +95,12 @@ module _ (W : ℕ) (c : ColourWords) where
     pub chroma-refused : first ≡ false → false ≡ chromaPasses W c chroma
     chroma-refused e = sym (chroma-read-is chroma ∙ ap (λ b. b && allOf (chromaOk W c chroma) (belowIn (colourWindow c))) (sym is ∙ e))
 
-    pub chroma-told : first ≡ true → (second : Bool) → second ≡ allOf (chromaOk W c chroma) (belowIn (colourWindow c)) → second ≡ chromaPasses W c chroma
+    pub chroma-told : first ≡ true → (second : Bool) → second ≡ allOf (chromaOk W c chroma) (belowIn (colourWindow c))
+        → second ≡ chromaPasses W c chroma
     chroma-told e second t = t ∙ sym (chroma-read-is chroma ∙ ap (λ b. b && allOf (chromaOk W c chroma) (belowIn (colourWindow c))) (sym is ∙ e))
 
-  pub chroma-at : (chroma : List Float) → chromaPasses W c chroma ≡ true → (i j : ℕ) → counts (colourWindow c) i j ≡ true → chromaOk W c chroma i j ≡ true
+  pub chroma-at : (chroma : List Float) → chromaPasses W c chroma ≡ true → (i j : ℕ) → counts (colourWindow c) i j ≡ true
+      → chromaOk W c chroma i j ≡ true
   chroma-at chroma e i j k = walk-true (colourWindow c) (chromaOk W c chroma) e i j k
 
 -- a sample that passed can be read

@@ -1,5 +1,5 @@
--- How the code gets there (document 02, request (v)): the rectangles of the windows that have the places that count, and what its two lists hold once the
--- samples that are used were read into them.
+-- How the code gets there (document 02, request (v)): the rectangles of the windows that have the places that count, and what its two lists hold
+-- once the samples that are used were read into them.
 use mathlib.Core.Path.{_≡_}
 use mathlib.Core.Bool.{true}
 use mathlib.Core.List.{List}

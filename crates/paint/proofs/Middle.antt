@@ -15,12 +15,14 @@ module _ {A : Type 0} where
   pub mid-before : (o w : ℕ) (ys row : List A) (p : ℕ) (d : A) → o + w ≤ length ys → p < o → getD (putMid o w ys row) p d ≡ getD ys p d
   mid-before o w ys row p d h l = List·getD-append (take o ys) _ d p (simp (length-take) (omega arith)) ∙ getD-take o ys p d l
 
-  pub mid-in : (o w : ℕ) (ys row : List A) (i : ℕ) (d : A) → o + w ≤ length ys → length row ≡ w → i < w → getD (putMid o w ys row) (o + i) d ≡ getD row i d
+  pub mid-in : (o w : ℕ) (ys row : List A) (i : ℕ) (d : A) → o + w ≤ length ys → length row ≡ w → i < w
+      → getD (putMid o w ys row) (o + i) d ≡ getD row i d
   mid-in o w ys row i d h e l =
       let t : length (take o ys) ≡ o = simp (length-take) (omega arith) in
       ap (λ k. getD (putMid o w ys row) (k + i) d) (sym t) ∙ getD-append-add (take o ys) _ i d ∙ List·getD-append row _ d i (omega arith)
 
-  pub mid-after : (o w : ℕ) (ys row : List A) (p : ℕ) (d : A) → o + w ≤ length ys → length row ≡ w → o + w ≤ p → getD (putMid o w ys row) p d ≡ getD ys p d
+  pub mid-after : (o w : ℕ) (ys row : List A) (p : ℕ) (d : A) → o + w ≤ length ys → length row ≡ w → o + w ≤ p
+      → getD (putMid o w ys row) p d ≡ getD ys p d
   mid-after o w ys row p d h e l =
       let t : length (take o ys) ≡ o = simp (length-take) (omega arith) in
       let q : p ≡ length (take o ys) + (length row + (p - (o + w))) = omega arith in

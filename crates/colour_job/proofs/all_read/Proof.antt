@@ -31,7 +31,8 @@ returns-2 c =
     let k = c .before .before in
     let a = k .before .before .before .args in
     c .chroma-read .ensures
-    ∙ sym (ap (λ b. b && chromaRead (a .width) (a .c) (a .chroma .now)) (sym (k .luma-read .ensures) ∙ not-false (k .luma-read .result) (c .before .if1 .left)))
+    ∙ sym (ap (λ b. b && chromaRead (a .width) (a .c) (a .chroma .now))
+    (sym (k .luma-read .ensures) ∙ not-false (k .luma-read .result) (c .before .if1 .left)))
 
 pub all-read-spec : {M : Type 1} → statement M
 all-read-spec =

@@ -86,7 +86,8 @@ returns c =
     let l = rl q .read-luma .ensures in
     let e = q .colour .ensures ∙ ap (λ (b : Block). theColour (b .direction)) (k q .block .ensures) in
     record {
-      is = held-derived (s q .pre .0 .laid) (a .luma .now) (a .chroma .now) (xs q) (l .1) (ys q) (rc q .read-chroma .ensures .1) _ _ _ _ (q .before .window .ensures) e (depth-is q)
+      is = held-derived (s q .pre .0 .laid) (a .luma .now) (a .chroma .now) (xs q) (l .1) (ys q) (rc q .read-chroma .ensures .1) _ _ _ _
+          (q .before .window .ensures) e (depth-is q)
           (c .sampled .ensures);
       long = l .0;
       held = l .1;

@@ -1,7 +1,7 @@
 -- `do_colour` meets its contract: the tests are 8 and then 14, and a job that passes them writes the block that its parameters give. Assumes nothing.
 use borrow.Author.Needs.{needs, sfits-of}
 use borrow.Author.Tests.{not-true, not-false}
-use mathlib.Core.Path.{_≡_, refl, sym, _∙_, ap, subst}
+use mathlib.Core.Path.{refl, sym, _∙_, ap, subst}
 use Prim.Native.Nat.{ℕ}
 use native.Mathlib.Omega.{arith}
 use lib.IntN.{pos}
@@ -10,12 +10,12 @@ use Rattle.numbers.specs.Answer.{isDone}
 use Rattle.numbers.specs.Depth.{most}
 use Rattle.signed.proofs.Bound.{back}
 use Rattle.colour_words.specs.Placed.{ColourLaid}
-use Rattle.colour_job.specs.Windows.{colourAnswer}
-use Rattle.colour_job.specs.Passed.{Passed}
-use Rattle.colour_job.proofs.Answers.{answer-eight, passed-eight, answer-fourteen, params-are, painted-is, refused-job, finished-job}
+use Rattle.colour_job.proofs.Answers.{answer-eight, params-are, painted-is, refused-job, finished-job}
 use Rattle.colour_job.proofs.Held.{held-in-range}
+use Rattle.colour_job.proofs.do_colour.Proof.Steps.{s, passed, d, e, answer-is}
 use Rattle.colour_job.proofs.do_colour.Statement.{statement}
 use Rattle.colour_job.proofs.do_colour.Tie as tie
+mod Steps
 
 depth-of-requires : tie.Need-depth-of-requires
 depth-of-requires c κs = c .before .before .pre .0 .0 .placed .is-depth
@@ -26,8 +26,12 @@ max-requires c κs = search needs
 all-read-requires : tie.Need-all-read-requires
 all-read-requires c κs =
     let d = c .before .before in
-    let s = d .before .before .before in
-    (s .pre .0 .0, s .pre .0 .1, back w32 {z = c .max .result} (sfits-of (c .max .ok)) ∙ c .max .ensures ∙ ap (λ n. pos (most n)) (d .depth-of .ensures))
+    let s = d .before .before .before in (
+      s .pre .0 .0,
+      s .pre .0 .1,
+      back w32 {z = c .max .result} (sfits-of (c .max .ok)) ∙ c .max .ensures ∙ ap (λ n. pos (most n))
+          (d .depth-of .ensures),
+    )
 
 same-length : tie.Need-same-length
 same-length c = search needs
@@ -38,18 +42,8 @@ returns c =
     let k = c .before in
     let a = k .before .before .before .before .before .before .args in
     refused-job (a .width) (a .c) (a .luma .now) (a .chroma .now)
-    (answer-eight (a .width) (a .c) (a .luma .now) (a .chroma .now) (k .all-read .result) (k .all-read .ensures) (not-true (k .all-read .result) (c .if1 .taken))) refl
-
--- what a job that passed 8 has
-module _ (c : tie.Else1) where
-  abbrev s : tie.Start
-  s = c .before .before .before .before .before .before .before
-
-  passed : Passed (s .args .width) (s .args .c) (s .args .luma .now) (s .args .chroma .now)
-  passed =
-      let k = c .before in
-      passed-eight (s .args .width) (s .args .c) (s .args .luma .now) (s .args .chroma .now) (k .all-read .result) (k .all-read .ensures)
-      (not-false (k .all-read .result) (c .if1 .left)) (s .pre .0 .0) (s .pre .0 .1)
+    (answer-eight (a .width) (a .c) (a .luma .now) (a .chroma .now) (k .all-read .result) (k .all-read .ensures)
+    (not-true (k .all-read .result) (c .if1 .taken))) refl
 
 derive-requires : tie.Need-derive-requires
 derive-requires c κs =
@@ -68,22 +62,12 @@ same-length-3 c = search needs
 same-length-4 : tie.Need-same-length-4
 same-length-4 c = search needs
 
--- and its answer
-module _ (c : tie.After-is-done) where
-  abbrev d : tie.After-derive
-  d = c .before .before .before
-
-  abbrev e : tie.Else1
-  e = d .before .before .before .before
-
-  answer-is : d .derive .result .answer ≡ colourAnswer (s e .args .width) (s e .args .c) (s e .args .luma .now) (s e .args .chroma .now)
-  answer-is = answer-fourteen (s e .args .width) (s e .args .c) (s e .args .luma .now) (s e .args .chroma .now) (passed e) (d .derive .ensures)
-
 returns-2 : tie.Need-returns-2
 returns-2 c =
     let k = c .before in
     let a = s (e k) .args in
-    refused-job (a .width) (a .c) (a .luma .now) (a .chroma .now) (answer-is k) (sym (k .is-done .ensures) ∙ not-true (k .is-done .result) (c .if2 .taken))
+    refused-job (a .width) (a .c) (a .luma .now) (a .chroma .now) (answer-is k)
+    (sym (k .is-done .ensures) ∙ not-true (k .is-done .result) (c .if2 .taken))
 
 write-block-requires : tie.Need-write-block-requires
 write-block-requires c κs =

@@ -58,7 +58,8 @@ module _ (c : tie.After-predict-into) where
       let x0 = toZ-ofZ {w = w32} {z = s .args .p .x0} (sfits-of (g .0 .1)) in
       let x1 = toZ-ofZ {w = w32} {z = s .args .p .x1} (sfits-of (g .1 .0 .1)) in
       let x2 = toZ-ofZ {w = w32} {z = s .args .p .x2} (sfits-of (g .1 .1 .0 .1)) in
-      block-as (s .args .luma-window .now) (colourBlock (s .args .c)) (s .args .p .x0) (s .args .p .x1) (s .args .p .x2) (s .args .out .now) _ _ _ _ _ (k .block .ensures) x0 x1 x2
+      block-as (s .args .luma-window .now) (colourBlock (s .args .c)) (s .args .p .x0) (s .args .p .x1) (s .args .p .x2)
+      (s .args .out .now) _ _ _ _ _ (k .block .ensures) x0 x1 x2
       (c .predict-into .ensures)
 
 cast-t12 : tie.Need-cast-t12
@@ -80,8 +81,14 @@ write-patch-requires c κs =
     let l = s q .pre .0 .0 in (
       record { H = l .H; sides = l .sides; whole = l .whole; across = l .placed .across; down = l .placed .down },
       (
-        omega (arith, room q, ap length (out-is q) ∙ block-length (a .luma-window .now) (colourBlock (a .c)) (a .p .x0) (a .p .x1) (a .p .x2) (a .out .now) (room q)),
-        subst (Edge 4095 (a .c .height * a .c .width)) (sym (out-is q)) (block-edge (a .luma-window .now) (colourBlock (a .c)) (a .p .x0) (a .p .x1) (a .p .x2) (a .out .now) (l .placed .is-depth)),
+        omega (
+          arith,
+          room q,
+          ap length (out-is q) ∙ block-length (a .luma-window .now) (colourBlock (a .c)) (a .p .x0) (a .p .x1) (a .p .x2)
+              (a .out .now) (room q),
+        ),
+        subst (Edge 4095 (a .c .height * a .c .width)) (sym (out-is q))
+            (block-edge (a .luma-window .now) (colourBlock (a .c)) (a .p .x0) (a .p .x1) (a .p .x2) (a .out .now) (l .placed .is-depth)),
       ),
     )
 
@@ -96,7 +103,8 @@ returns c =
     let w = c .before .before in
     let q = w .before .before .before .before .before .before .before .before in
     let a = s q .args in
-    block-painted (a .luma-window .now) (colourBlock (a .c)) (a .p .x0) (a .p .x1) (a .p .x2) (a .out .now) _ (a .width) (a .c .x) (a .c .y) (a .chroma .now) _ (out-is q)
+    block-painted (a .luma-window .now) (colourBlock (a .c)) (a .p .x0) (a .p .x1) (a .p .x2) (a .out .now) _ (a .width) (a .c .x) (a .c .y)
+    (a .chroma .now) _ (out-is q)
     (w .write-patch .ensures)
 
 pub write-block-spec : {M : Type 1} → statement M

@@ -1,7 +1,7 @@
 -- `part_read` meets its contract: the rectangle is moved to where the window stands. Assumes nothing.
 use borrow.Author.Needs.{needs}
 use mathlib.Core.Path.{_≡_, sym, _∙_, subst}
-use Prim.Native.Nat.{_+_, _-_}
+use Prim.Native.Nat.{ℕ, _+_, _-_}
 use lib.IntN.{pos}
 use lib.ListN.{length}
 use mir.Syntax.{w32}
@@ -29,9 +29,11 @@ module _ (c : tie.After-moved) where
   abbrev s : tie.Start
   s = c .before .before .before .before
 
-  moved-is : c .moved .result ≡ record { x = s .args .c .x - s .args .c .«left_lines» + s .args .p .x; y = s .args .c .y - s .args .c .«above_lines» + s .args .p .y; w = s .args .p .w; h = s .args .p .h }
-  moved-is = c .moved .ensures
-      ∙ (λ j. record { x = c .before .before .chroma-x .ensures j + s .args .p .x; y = c .before .chroma-y .ensures j + s .args .p .y; w = s .args .p .w; h = s .args .p .h })
+  abbrev placed : ℕ → ℕ → Patch
+  placed x y = record { x = x + s .args .p .x; y = y + s .args .p .y; w = s .args .p .w; h = s .args .p .h }
+
+  moved-is : c .moved .result ≡ placed (s .args .c .x - s .args .c .«left_lines») (s .args .c .y - s .args .c .«above_lines»)
+  moved-is = c .moved .ensures ∙ (λ j. placed (c .before .before .chroma-x .ensures j) (c .before .chroma-y .ensures j))
 
   bound-is : toZ w32 (ofZ w32 (s .args .m)) ≡ pos (most (s .args .c .d))
   bound-is = toZ-ofZ (s .fits .m) ∙ s .pre .1
@@ -39,7 +41,8 @@ module _ (c : tie.After-moved) where
 all-samples-requires : tie.Need-all-samples-requires
 all-samples-requires c κs =
     let l = s c .pre .0 in (
-      subst (λ (r : Patch). Lies (length (s c .args .chroma .now)) (s c .args .width) (r .x) (r .y) (r .w) (r .h)) (sym (moved-is c)) (chroma-lies l (s c .args .p) (s c .pre .2)),
+      subst (λ (r : Patch). Lies (length (s c .args .chroma .now)) (s c .args .width) (r .x) (r .y) (r .w) (r .h)) (sym (moved-is c))
+          (chroma-lies l (s c .args .p) (s c .pre .2)),
       most-in (s c .args .c .d) _ (l .placed .is-depth) (bound-is c),
     )
 

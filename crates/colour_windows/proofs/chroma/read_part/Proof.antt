@@ -65,7 +65,8 @@ read-patch-requires : tie.Need-read-patch-requires
 read-patch-requires c κs =
     let k = c .before in
     let t = s k in
-    let g = asked (t .pre .0) (t .args .p) (t .pre .2) (t .args .chroma .now) (t .pre .3) (k .before .chroma-x .result) (k .chroma-y .result) (x-is k) (y-is k) in
+    let g = asked (t .pre .0) (t .args .p) (t .pre .2) (t .args .chroma .now) (t .pre .3) (k .before .chroma-x .result) (k .chroma-y .result)
+    (x-is k) (y-is k) in
     ((g .0, in-rows (t .pre .0) (t .args .p) (t .pre .2) (t .pre .1)), (pos-inside 8 1 (omega arith), g .1))
 
 same-length : tie.Need-same-length

@@ -46,7 +46,8 @@ all-samples-requires c κs =
 returns : tie.Need-returns
 returns c =
     let a = s (c .before) .args in
-    subst (λ (m : ℤ). c .all-samples .result ≡ every (λ j. every (λ i. isSample m (getD (a .luma .now) (lumaPlace (a .width) (a .c) i j) nan)) (a .c .«ref_width»)) (a .c .«ref_height»))
+    subst (λ (m : ℤ). c .all-samples .result ≡ every (λ j. every (λ i. isSample m (getD (a .luma .now) (lumaPlace (a .width) (a .c) i j) nan))
+    (a .c .«ref_width»)) (a .c .«ref_height»))
     (bound-is (c .before)) (c .all-samples .ensures)
 
 pub luma-read-spec : {M : Type 1} → statement M

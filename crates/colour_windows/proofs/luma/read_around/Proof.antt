@@ -50,7 +50,7 @@ read-patch-requires : tie.Need-read-patch-requires
 read-patch-requires c κs =
     let k = c .before in
     let l = s k .pre .0 .0 in
-    ((luma-lies l (r k) (r-in k), in-rows l (r k) (r-in k) (s k .pre .0 .1)), (pos-inside 8 8 (omega arith), can-read k))
+    ((luma-lies l (r k) (r-in k), in-rows l (r k) (r-in k) (s k .pre .0 .1)), (pos-inside 8 _ (omega arith), can-read k))
 
 same-length : tie.Need-same-length
 same-length c = search needs

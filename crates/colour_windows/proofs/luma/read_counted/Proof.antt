@@ -37,21 +37,27 @@ module _ (c : tie.After-above-in) where
   abbrev s : tie.Start
   s = c .before .before .before .before .before .before .before
 
+  abbrev d : tie.After-colour
+  d = c .before .before .before
+
+  direction-is : d .colour .result ≡ theColour (s .args .c .direction)
+  direction-is = d .colour .ensures ∙ ap (λ (b : Block). theColour (b .direction)) (d .before .block .ensures)
+
   up-is : c .before .before .rows-up .result ≡ rowsUp (theColour (s .args .c .direction))
-  up-is = let d = c .before .before .before in c .before .before .rows-up .ensures ∙ ap rowsUp (d .colour .ensures ∙ ap (λ (b : Block). theColour (b .direction)) (d .before .block .ensures))
+  up-is = c .before .before .rows-up .ensures ∙ ap rowsUp direction-is
 
   left-is : c .before .columns-left .result ≡ columnsLeft (theColour (s .args .c .direction))
-  left-is = let d = c .before .before .before in c .before .columns-left .ensures ∙ ap columnsLeft (d .colour .ensures ∙ ap (λ (b : Block). theColour (b .direction)) (d .before .block .ensures))
+  left-is = c .before .columns-left .ensures ∙ ap columnsLeft direction-is
 
   above-is : c .above-in .result ≡ aboveIn (colourWindow (s .args .c))
   above-is = c .above-in .ensures ∙ ap aboveIn (c .before .before .before .before .before .window .ensures)
 
   -- a rectangle from column 1 and row 1 on, or further on
-  pub held : (p q : Patch) → p ≡ q → InWindow (s .args .c) q → 1 ≤ q .x → 1 ≤ q .y
+  held : (p q : Patch) → p ≡ q → InWindow (s .args .c) q → 1 ≤ q .x → 1 ≤ q .y
       → InWindow (s .args .c) p × (c .before .columns-left .result ≤ p .x) × (c .before .before .rows-up .result ≤ p .y)
   held p q e h x y =
-      let d = theColour (s .args .c .direction) in
-      rw e (h, omega (arith, left-is, columns-one d), omega (arith, up-is, rows-one d))
+      let way = theColour (s .args .c .direction) in
+      rw e (h, omega (arith, left-is, columns-one way), omega (arith, up-is, rows-one way))
 
 read-around-requires : tie.Need-read-around-requires
 read-around-requires c κs =
@@ -87,7 +93,8 @@ returns c =
     let r = c .before in
     let k = r .before .before in
     let v = u k in
-    counted-held (s v .pre .0) _ _ _ _ (above-is v) (below-is k) (up-is v) (left-is v) (k .before .before .read-around .ensures) (r .read-around2 .ensures)
+    counted-held (s v .pre .0) _ _ _ _ (above-is v) (below-is k) (up-is v) (left-is v) (k .before .before .read-around .ensures)
+    (r .read-around2 .ensures)
 
 pub read-counted-spec : {M : Type 1} → statement M
 read-counted-spec =

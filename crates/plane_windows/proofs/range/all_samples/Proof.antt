@@ -84,7 +84,8 @@ loop-again : tie.Need-loop-again Inv-loop μ-loop
 loop-again c =
     let k = c .before .before in
     let a = k .before .before .args in
-    let here = run-is _ (a .plane .now) (a .width) (a .p .x) (a .p .y) (a .p .w) (k .loop .o) (k .loop .j) _ (k .loop .inv .1) (c .run-in-range .ensures) in
+    let here = run-is _ (a .plane .now) (a .width) (a .p .x) (a .p .y) (a .p .w) (k .loop .o) (k .loop .j) _ (k .loop .inv .1)
+    (c .run-in-range .ensures) in
     let e : a .p .y + (k .loop .j + 1) ≡ a .p .y + k .loop .j + 1 = omega arith in (
       omega arith,
       omega (arith, ap (λ t. t * a .width) e, add-mul (a .p .y + k .loop .j) 1 (a .width), k .loop .inv .1),

@@ -1,23 +1,17 @@
 -- `read_patch` meets its contract. The invariant: the first j rows are read, o is the place of row j in the plane, and k in the list. Assumes nothing.
-use Prim.Native.Nat.{_+_, _-_, _*_}
-use native.Mathlib.Nat.{add-mul}
+use Prim.Native.Nat.{_-_}
 use native.Mathlib.Omega.{arith}
-use mathlib.Core.Path.{_≡_, refl, sym, _∙_, ap, subst}
+use mathlib.Core.Path.{_≡_, subst}
 use lib.IntN.{natAbs}
-use lib.Ieee.{nan}
-use lib.ListN.{getD}
-use mir.Syntax.{w32}
-use mir.Val.{toZ, ofZ}
 use mir.Facts.{toZ-ofZ}
-use Rattle.lists.proofs.Block.{part-length}
-use Rattle.samples.specs.Sample.{Readable}
 use Rattle.plane_windows.specs.Into.{readAt, Into}
-use Rattle.plane_windows.proofs.Lies.{part-at, first-most, start-most}
-use Rattle.plane_windows.proofs.Into.{into-none}
-use Rattle.plane_windows.proofs.read.read_patch.Proof.Loop.{Inv-loop, μ-loop, again, start, source, small, room, few}
+use Rattle.plane_windows.proofs.Lies.{first-most, start-most}
+use Rattle.plane_windows.proofs.read.read_patch.Proof.Loop.{Inv-loop, μ-loop, source, small, room, few}
+use Rattle.plane_windows.proofs.read.read_patch.Proof.Turn.{loop-holds, read-row-requires, loop-again}
 use Rattle.plane_windows.proofs.read.read_patch.Statement.{statement}
 use Rattle.plane_windows.proofs.read.read_patch.Tie as tie
 mod Loop
+mod Turn
 
 add-o : tie.Need-add-o Inv-loop μ-loop
 add-o c = omega (arith, c .before .pre .0 .0 .down, c .before .pre .0 .0 .sides)
@@ -36,12 +30,6 @@ mul-k c = omega (arith, c .before .pre .0 .1 .few)
 
 add-k : tie.Need-add-k Inv-loop μ-loop
 add-k c = omega (arith, c .before .pre .0 .1 .few, c .before .pre .0 .1 .columns)
-
-loop-holds : tie.Need-loop-holds Inv-loop μ-loop
-loop-holds c =
-    let a = c .before .args in
-    let z : a .y + a .p .y + 0 ≡ a .y + a .p .y = omega arith in
-    (omega arith, ap (λ t. t * a .width + (a .x + a .p .x)) (sym z), omega arith, refl, into-none _ _ _ _ _)
 
 add-e : tie.Need-add-e Inv-loop μ-loop
 add-e c = omega (arith, small c)
@@ -73,20 +61,6 @@ part-read-row-start-2 c = omega arith
 part-read-row-end-2 : tie.Need-part-read-row-end-2 Inv-loop μ-loop
 part-read-row-end-2 c = room (c .before)
 
-read-row-requires : tie.Need-read-row-requires Inv-loop μ-loop
-read-row-requires c κs =
-    let i = c .before .before in
-    let k = i .before in
-    let s = start i in
-    let w = s .args .p .w in
-    let n = part-length (k .loop .k) w (k .loop .window) (room i) in
-    let m = part-length (k .loop .o) w (s .args .plane .now) (source i) in
-    simp (n, m, toZ-ofZ, s .fits .times) (
-      (omega arith, s .pre .1 .0),
-      λ t h. rw (part-at (k .loop .o) w (s .args .plane .now) t nan h) (
-          subst (λ q. Readable (getD (s .args .plane .now) q nan)) (omega (arith, k .loop .inv .1)) (s .pre .1 .1 t (k .loop .j) h (i .loop-test .taken))),
-    )
-
 add-o-4 : tie.Need-add-o-4 Inv-loop μ-loop
 add-o-4 c =
     let k = c .before .before .before .before .before in
@@ -102,22 +76,6 @@ add-j c = omega arith
 loop-less : tie.Need-loop-less Inv-loop μ-loop
 loop-less c = omega arith
 
-loop-again : tie.Need-loop-again Inv-loop μ-loop
-loop-again c =
-    let i = c .before .before .before .before in
-    let k = i .before in
-    let s = start i in
-    let a = s .args in
-    let e : a .y + a .p .y + (k .loop .j + 1) ≡ a .y + a .p .y + k .loop .j + 1 = omega arith in (
-      omega arith,
-      omega (arith, ap (λ t. t * a .width) e, add-mul (a .y + a .p .y + k .loop .j) 1 (a .width), k .loop .inv .1),
-      omega (arith, k .loop .inv .2),
-      c .window .given .1 ∙ k .loop .inv .3,
-      again (natAbs (toZ w32 (ofZ w32 (a .times)))) (a .width) (a .x) (a .y) (a .p .x) (a .p .y) (a .p .w) (k .loop .j) (k .loop .o) (k .loop .k)
-          (a .plane .now) (a .window .now) (k .loop .window) _ (s .pre .0 .1 .columns) (k .loop .inv .1) (k .loop .inv .2) (room i)
-          (c .before .read-row .ensures) (k .loop .inv .4),
-    )
-
 same-length : tie.Need-same-length Inv-loop μ-loop
 same-length c = c .before .loop .inv .3
 
@@ -127,8 +85,10 @@ returns c =
     let s = k .before .before in
     let a = s .args in
     let e : k .loop .j ≡ a .p .h = omega arith in
-    subst (λ n. Into (readAt (natAbs (a .times)) (a .width) (a .x) (a .y) (a .plane .now)) (a .p .x) (a .p .y) (a .p .w) n (a .window .now) (k .loop .window)) e
-    (subst (λ z. Into (readAt (natAbs z) (a .width) (a .x) (a .y) (a .plane .now)) (a .p .x) (a .p .y) (a .p .w) (k .loop .j) (a .window .now) (k .loop .window))
+    subst (λ n. Into (readAt (natAbs (a .times)) (a .width) (a .x) (a .y) (a .plane .now)) (a .p .x) (a .p .y) (a .p .w) n (a .window .now)
+    (k .loop .window)) e
+    (subst (λ z. Into (readAt (natAbs z) (a .width) (a .x) (a .y) (a .plane .now)) (a .p .x) (a .p .y) (a .p .w) (k .loop .j) (a .window .now)
+    (k .loop .window))
     (toZ-ofZ (s .fits .times)) (k .loop .inv .4))
 
 pub read-patch-spec : {M : Type 1} → statement M

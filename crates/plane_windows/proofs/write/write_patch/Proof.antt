@@ -1,29 +1,22 @@
 -- `write_patch` meets its contract. The invariant: the first r rows are written, o is the place of row r, and k is r w. Assumes nothing.
-use Prim.Native.Nat.{_+_, _-_, _*_}
-use native.Mathlib.Nat.{add-mul}
+use Prim.Native.Nat.{_-_}
 use native.Mathlib.Omega.{arith}
-use mathlib.Core.Path.{_≡_, refl, sym, _∙_, ap}
-use lib.IntN.{pos}
-use Rattle.lists.proofs.Block.{part-length}
+use mathlib.Core.Path.{_≡_, _∙_}
 use Rattle.paint.specs.Painted.{painted}
-use Rattle.paint.proofs.RowByRow.{rowsOf, painted-none}
-use Rattle.plane_windows.proofs.Lies.{part-at, first-most, start-most}
-use Rattle.plane_windows.proofs.write.write_patch.Proof.Loop.{at, Inv-loop, μ-loop, again, start, room, near, inside-block, few, lent}
+use Rattle.paint.proofs.RowByRow.{rowsOf}
+use Rattle.plane_windows.proofs.Lies.{first-most, start-most}
+use Rattle.plane_windows.proofs.write.write_patch.Proof.Loop.{at, Inv-loop, μ-loop, room, near, few, lent}
+use Rattle.plane_windows.proofs.write.write_patch.Proof.Turn.{loop-holds, write-row-requires, loop-again}
 use Rattle.plane_windows.proofs.write.write_patch.Statement.{statement}
 use Rattle.plane_windows.proofs.write.write_patch.Tie as tie
 mod Loop
+mod Turn
 
 mul-o : tie.Need-mul-o Inv-loop μ-loop
 mul-o c = omega (arith, first-most (c .before .pre .0))
 
 add-o : tie.Need-add-o Inv-loop μ-loop
 add-o c = omega (arith, first-most (c .before .pre .0))
-
-loop-holds : tie.Need-loop-holds Inv-loop μ-loop
-loop-holds c =
-    let a = c .before .args in
-    let z : a .p .y + 0 ≡ a .p .y = omega arith in
-    (omega arith, ap (λ t. t * a .width + a .p .x) (sym z), omega arith, refl, sym (painted-none (a .width) (a .p .x) (a .p .y) (a .p .w) (c .before .pre .0 .across) _ _))
 
 add-e : tie.Need-add-e Inv-loop μ-loop
 add-e c = omega (arith, near c)
@@ -55,16 +48,6 @@ part-write-row-start-2 c = omega arith
 part-write-row-end-2 : tie.Need-part-write-row-end-2 Inv-loop μ-loop
 part-write-row-end-2 c = room (c .before)
 
-write-row-requires : tie.Need-write-row-requires Inv-loop μ-loop
-write-row-requires c κs =
-    let i = c .before .before in
-    let k = i .before in
-    let s = start i in
-    let w = s .args .p .w in
-    let n = part-length (k .loop .o) w (k .loop .plane) (room i) in
-    let m = part-length (k .loop .k) w (s .args .from .now) (lent i) in
-    simp (n, m) (omega arith, λ j h. rw (part-at (k .loop .k) w (s .args .from .now) j (pos 0) h) (s .pre .1 .1 (k .loop .k + j) (omega (arith, inside-block i))))
-
 add-o-2 : tie.Need-add-o-2 Inv-loop μ-loop
 add-o-2 c =
     let k = c .before .before .before .before .before .before in
@@ -76,21 +59,6 @@ add-r c = omega arith
 
 loop-less : tie.Need-loop-less Inv-loop μ-loop
 loop-less c = omega arith
-
-loop-again : tie.Need-loop-again Inv-loop μ-loop
-loop-again c =
-    let i = c .before .before .before .before .before in
-    let k = i .before in
-    let s = start i in
-    let a = s .args in
-    let e : a .p .y + (k .loop .r + 1) ≡ a .p .y + k .loop .r + 1 = omega arith in (
-      omega arith,
-      omega (arith, ap (λ t. t * a .width) e, add-mul (a .p .y + k .loop .r) 1 (a .width), k .loop .inv .1),
-      omega (arith, add-mul (k .loop .r) 1 (a .p .w), k .loop .inv .2),
-      c .before .plane .given .1 ∙ k .loop .inv .3,
-      again (a .width) (a .p .x) (a .p .y) (a .p .w) (k .loop .r) (k .loop .o) (k .loop .k) (a .from .now) (a .plane .now) (k .loop .plane) _
-          (s .pre .0 .across) (k .loop .inv .1) (k .loop .inv .2) (k .loop .inv .3) (k .loop .inv .4) (room i) (c .before .before .write-row .ensures),
-    )
 
 same-length : tie.Need-same-length Inv-loop μ-loop
 same-length c = c .before .loop .inv .3
