@@ -20,7 +20,7 @@ fn edged(plane: &mut [f32], width: usize, job: Job, differences: &[i16], out: &m
 }
 
 // A job that 1 to 7 do not refuse, with a room of its size class: clearing a large one would cost more than a small job.
-fn alone(plane: &mut [f32], width: usize, job: Job, differences: &[i16]) -> Answer
+pub fn alone(plane: &mut [f32], width: usize, job: Job, differences: &[i16]) -> Answer
     requires { ⌜ Tested width (length (now differences)) (length (now plane)) job ⌝ }
     ensures { λ r. ⌜ Promise (readAnswer width job (now (plane .entry))) (readDone width (now (differences .entry)) job (now (plane .entry))) r (now (plane .exit)) ⌝ }
 {

@@ -1,0 +1,3 @@
+-- Laws of a tower's job by itself.
+pub mod Rooms
+pub mod Singles
