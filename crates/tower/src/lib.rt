@@ -2,3 +2,4 @@
 // include/latchtower.h declares these functions. Each takes any input, returns 0 or a refusal's number, and changes nothing that it was lent when it
 // refuses.
 pub mod blocks;
+pub mod jobs;
