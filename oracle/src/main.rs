@@ -21,6 +21,7 @@ mod refusals;
 mod spec;
 mod still;
 mod tally;
+mod tower;
 mod util;
 
 const SEED: u64 = 0x4C61_7463_686F_7263;
@@ -41,8 +42,9 @@ fn main() {
     let colour = predict_block::compare(SEED, scale);
     let solved = elimination::compare(SEED, scale);
     let images = blocks::compare(SEED, scale);
+    let towers = tower::compare(SEED, scale);
     let plans = plans.join().expect("the comparison of plans ends");
     print!("oracle: {samples} predicted samples, {sets} edge sets, ");
     print!("{windows} colour windows, {colour} colour samples, {solved} eliminations, ");
-    println!("{plans} plans, {images} block images, 0 differences");
+    println!("{plans} plans, {images} block images, {towers} plans over three planes, 0 differences");
 }
