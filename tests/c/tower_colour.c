@@ -54,8 +54,8 @@ static void uneven(void) {
         int64_t d = 8 + 2 * (k % 3), direction = k / 3 % 3, above = k / 9 % 2 ? 5 : 0, left = k / 18 ? 4 : 0;
         const int64_t f[FIELDS_MOST] = {
             ANY_COLOUR(d), [WIDTH] = 31, [HEIGHT] = 19, [PLANE_NUMBER] = 1, [COLOUR_DIRECTION] = direction, [HAVE_TOP] = above > 0,
-            [HAVE_SIDE] = left > 0, [X] = 9, [Y] = 6, [LEFT_LINES] = left, [ABOVE_LINES] = above, [REF_WIDTH] = 20, [REF_HEIGHT] = 13, [COLOUR_WIDTH] = 13,
-            [COLOUR_HEIGHT] = 2, [LUMA_X] = 2, [LUMA_Y] = 5};
+            [HAVE_SIDE] = left > 0, [X] = 9, [Y] = 6, [LEFT_LINES] = left, [ABOVE_LINES] = above, [REF_WIDTH] = 20, [REF_HEIGHT] = 13,
+            [COLOUR_WIDTH] = 13, [COLOUR_HEIGHT] = 2, [LUMA_X] = 2, [LUMA_Y] = 5};
         written(f);
     }
 }
