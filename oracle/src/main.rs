@@ -35,6 +35,7 @@ fn main() {
     println!("oracle: seed {SEED}, scale {scale}");
     // plans take as long as all the rest, and share nothing with it
     let plans = std::thread::spawn(move || plan::compare(SEED, scale));
+    let towers = std::thread::spawn(move || tower::compare(SEED, scale));
     let samples = predictors::compare(SEED, scale) + directional::compare(SEED, scale);
     let sets = edges::compare(SEED, scale);
     still::compare(&std::env::args().nth(2).unwrap_or_default());
@@ -42,7 +43,7 @@ fn main() {
     let colour = predict_block::compare(SEED, scale);
     let solved = elimination::compare(SEED, scale);
     let images = blocks::compare(SEED, scale);
-    let towers = tower::compare(SEED, scale);
+    let towers = towers.join().expect("the comparison of plans over three planes ends");
     let plans = plans.join().expect("the comparison of plans ends");
     print!("oracle: {samples} predicted samples, {sets} edge sets, ");
     print!("{windows} colour windows, {colour} colour samples, {solved} eliminations, ");
