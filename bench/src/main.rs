@@ -24,6 +24,12 @@ mod refusals;
 mod row;
 #[path = "../../oracle/src/spec.rs"]
 mod spec;
+#[path = "../../oracle/src/tower/calls.rs"]
+#[allow(dead_code)]
+mod tower_calls;
+#[path = "../../oracle/src/tower/row.rs"]
+#[allow(dead_code)]
+mod tower_row;
 #[path = "../../oracle/src/util.rs"]
 mod util;
 
@@ -42,6 +48,10 @@ mod runner;
 mod rust;
 mod timing;
 mod touches;
+mod tower;
+mod tower_rows;
+mod tower_runner;
+mod tower_touches;
 mod ways;
 
 const SEED: u64 = 0x4C61_7463_6862_6E63;
@@ -56,4 +66,5 @@ fn main() {
     derive_params::run(SEED);
     predict_block::run(SEED);
     radio::run(SEED);
+    tower::run(SEED);
 }

@@ -29,7 +29,7 @@ impl Runner {
         Runner { times: Vec::new(), before: Vec::new(), touches: Vec::new(), block: vec![0.0; 64 * 64] }
     }
 
-    fn job(&mut self, plane: &mut [f32], width: usize, height: usize, row: &Row, differences: &[i16]) -> u16 {
+    pub fn job(&mut self, plane: &mut [f32], width: usize, height: usize, row: &Row, differences: &[i16]) -> u16 {
         let number = refusal(row, width, height, differences.len());
         if number != 0 {
             return number;
@@ -45,7 +45,7 @@ impl Runner {
         0
     }
 
-    fn each_once(&mut self, order: &[u16]) -> bool {
+    pub fn each_once(&mut self, order: &[u16]) -> bool {
         self.times.clear();
         self.times.resize(order.len(), 0);
         order.iter().all(|&index| self.times.get_mut(usize::from(index)).is_some_and(|times| std::mem::replace(times, 1) == 0))
@@ -70,7 +70,8 @@ impl Runner {
             let touch = |row| if refusal(row, width, height, differences.len()) == 0 { Touch::of(row) } else { Touch::default() };
             self.touches.clear();
             self.touches.extend(rows.iter().map(touch));
-            if turns_a_pair(&self.touches, order, &mut self.before) {
+            let touches = &self.touches;
+            if turns_a_pair(order, &mut self.before, |i, j| touches[i].clashes(&touches[j])) {
                 return 23;
             }
         }

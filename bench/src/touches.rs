@@ -12,13 +12,13 @@ pub struct Rect {
 }
 
 impl Rect {
-    fn new(x: i32, y: i32, width: i32, height: i32) -> Rect {
+    pub fn new(x: i32, y: i32, width: i32, height: i32) -> Rect {
         Rect { x, y, x_end: x + width, y_end: y + height }
     }
 
     /// Whether both have a sample in common.
     #[inline]
-    fn meets(&self, other: &Rect) -> bool {
+    pub fn meets(&self, other: &Rect) -> bool {
         self.x.max(other.x) < self.x_end.min(other.x_end) && self.y.max(other.y) < self.y_end.min(other.y_end)
     }
 }
@@ -27,7 +27,7 @@ impl Rect {
 #[derive(Clone, Copy, Default)]
 pub struct Touch {
     pub block: Rect,
-    reads: [Rect; 5],
+    pub reads: [Rect; 5],
     pub around: Rect,
 }
 
@@ -67,14 +67,14 @@ impl Touch {
     }
 }
 
-/// Whether an order, which holds each index once, turns a clashing pair round. `before` is room for the indices met so far,
+/// Whether an order, which holds each index once, turns a pair round that clashes. `before` is room for the indices met so far,
 /// smallest first: those above a job's index make the inverted pairs with it, and no other pair is looked at.
-pub fn turns_a_pair(touches: &[Touch], order: &[u16], before: &mut Vec<u16>) -> bool {
+pub fn turns_a_pair(order: &[u16], before: &mut Vec<u16>, clash: impl Fn(usize, usize) -> bool) -> bool {
     before.clear();
     for &index in order {
         let mut place = before.len();
         while place > 0 && before[place - 1] > index {
-            if touches[usize::from(index)].clashes(&touches[usize::from(before[place - 1])]) {
+            if clash(usize::from(index), usize::from(before[place - 1])) {
                 return true;
             }
             place -= 1;

@@ -21,6 +21,7 @@ mod refusals;
 mod spec;
 mod still;
 mod tally;
+mod tower;
 mod util;
 
 const SEED: u64 = 0x4C61_7463_686F_7263;
@@ -34,6 +35,7 @@ fn main() {
     println!("oracle: seed {SEED}, scale {scale}");
     // plans take as long as all the rest, and share nothing with it
     let plans = std::thread::spawn(move || plan::compare(SEED, scale));
+    let towers = std::thread::spawn(move || tower::compare(SEED, scale));
     let samples = predictors::compare(SEED, scale) + directional::compare(SEED, scale);
     let sets = edges::compare(SEED, scale);
     still::compare(&std::env::args().nth(2).unwrap_or_default());
@@ -41,8 +43,9 @@ fn main() {
     let colour = predict_block::compare(SEED, scale);
     let solved = elimination::compare(SEED, scale);
     let images = blocks::compare(SEED, scale);
+    let towers = towers.join().expect("the comparison of plans over three planes ends");
     let plans = plans.join().expect("the comparison of plans ends");
     print!("oracle: {samples} predicted samples, {sets} edge sets, ");
     print!("{windows} colour windows, {colour} colour samples, {solved} eliminations, ");
-    println!("{plans} plans, {images} block images, 0 differences");
+    println!("{plans} plans, {images} block images, {towers} plans over three planes, 0 differences");
 }

@@ -30,7 +30,9 @@ void *zone_lend(struct zone *zone, size_t bytes) {
         bytes = ZONE_MOST;
     }
     zone->lent = bytes;
-    for (size_t i = 0; i < ZONE_GUARD + bytes + ZONE_GUARD; i++) zone->now[i] = (unsigned char)(0x80 + i * 37 % 127);
+    static unsigned char pattern[sizeof zone->now];
+    for (size_t i = 0; pattern[sizeof pattern - 1] == 0 && i < sizeof pattern; i++) pattern[i] = (unsigned char)(0x80 + i * 37 % 127);
+    memcpy(zone->now, pattern, ZONE_GUARD + bytes + ZONE_GUARD);
     static unsigned turn;
     void *const nowhere[] = {NULL, (void *)1, (void *)16, zone->now + ZONE_GUARD};
     return bytes > 0 ? zone->now + ZONE_GUARD : nowhere[turn++ % COUNT(nowhere)];
@@ -59,8 +61,8 @@ size_t length(int64_t needed, int64_t more) {
 }
 
 /* The fields that a fault sets, a bit for each. */
-static uint32_t fields_set(const struct fault *fault) {
-    uint32_t fields = 0;
+static uint64_t fields_set(const struct fault *fault) {
+    uint64_t fields = 0;
     for (int i = 0; i < SETS_MOST; i++)
         if (fault->sets[i].field != 0) fields |= BIT(fault->sets[i].field);
     return fields;
@@ -68,7 +70,7 @@ static uint32_t fields_set(const struct fault *fault) {
 
 /* Whether two faults can stand in one call: neither sets what the other sets or leans on. */
 static bool together(const struct fault *one, const struct fault *two) {
-    uint32_t first = fields_set(one), second = fields_set(two);
+    uint64_t first = fields_set(one), second = fields_set(two);
     return (first & (second | two->uses)) == 0 && (second & one->uses) == 0;
 }
 

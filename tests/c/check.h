@@ -31,8 +31,8 @@ void *zone_due(struct zone *zone);
 
 /* A call's parameters are numbered fields from 1 on. The first ones are of several calls; from OWN_FIELDS on they are its own. */
 enum { B = 1, D, ABOVE_MORE, LEFT_MORE, OWN_FIELDS };
-enum { FIELDS_MOST = 32, SETS_MOST = 4, TABLES_MOST = 5 };
-#define BIT(field) (UINT32_C(1) << (field))
+enum { FIELDS_MOST = 64, SETS_MOST = 4, TABLES_MOST = 8 };
+#define BIT(field) (UINT64_C(1) << (field))
 /* Lengths are told as entries more than needed; NONE is an empty slice. */
 #define NONE INT64_MIN
 size_t length(int64_t needed, int64_t more);
@@ -49,7 +49,7 @@ struct fault {
     const char *name;
     uint32_t number;
     struct { int field; int64_t value; } sets[SETS_MOST];
-    uint32_t uses;
+    uint64_t uses;
 };
 /* A table of faults: calls can share one. */
 struct faults {
@@ -92,5 +92,13 @@ void test_write_plan(void);
 void test_read_plan(void);
 void test_block_turns(void);
 void test_stack(void);
+void test_tower_job(void);
+void test_tower_colour(void);
+void test_tower_sums(void);
+void test_tower_run(void);
+void test_tower_plans(void);
+void test_tower_clashes(void);
+void test_tower_turned(void);
+void test_tower_stack(void);
 
 #endif

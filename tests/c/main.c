@@ -20,5 +20,13 @@ int main(void) {
     test_read_plan();
     test_block_turns();
     test_stack();
+    test_tower_job();
+    test_tower_colour();
+    test_tower_sums();
+    test_tower_run();
+    test_tower_plans();
+    test_tower_clashes();
+    test_tower_turned();
+    test_tower_stack();
     return checks_done();
 }

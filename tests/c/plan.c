@@ -6,7 +6,6 @@ static const struct fault of_row[] = {
     {"words one more", LATCH_BAD_PLAN, {{WORDS_MORE, 1}}, 0},
     {"words a row more", LATCH_BAD_PLAN, {{WORDS_MORE, LATCH_ROW_WORDS}}, 0},
     {"no words", LATCH_BAD_PLAN, {{WORDS_MORE, NONE}}, 0},
-    {"mode 5", LATCH_BAD_MODE, {{MODE, 5}}, 0},
     {"mode 260", LATCH_BAD_MODE, {{MODE, 260}}, 0},
     {"mode 65535", LATCH_BAD_MODE, {{MODE, 65535}}, 0},
     {"flag bit 5", LATCH_BAD_MODE, {{FLAGS_MORE, 1 << 5}}, 0},
@@ -20,6 +19,8 @@ static const struct fault of_row[] = {
     {"differences longer", LATCH_DONE, {{DIFFERENCES_MORE, 3}}, 0},
     {"differences from 8000 units on", LATCH_DONE, {{START, 8000}}, 0},
 };
+
+static const struct fault of_mode_5[] = {{"mode 5", LATCH_BAD_MODE, {{MODE, 5}}, 0}};
 
 /* In modes 0 to 3 the words 5, 6, 13 and 14 are not looked at. */
 static const struct fault of_plain_mode[] = {
@@ -44,7 +45,7 @@ static const struct fault of_direction[] = {
     {"max-width and max-height 65535", LATCH_DONE, {{MAX_WIDTH, 65535}, {MAX_HEIGHT, 65535}}, 0},
 };
 
-const struct faults row_faults = FAULTS(of_row);
+const struct faults row_faults = FAULTS(of_row), mode_5_faults = FAULTS(of_mode_5);
 
 struct faults mode_faults(int64_t mode) {
     struct faults plain = FAULTS(of_plain_mode), direction = FAULTS(of_direction);

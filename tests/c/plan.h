@@ -11,8 +11,8 @@ enum { MODE = BLOCK_FIELDS, DIRECTION, DELTA, FLAGS_MORE, MAX_WIDTH, MAX_HEIGHT,
  * DIFFERENCES_MORE: entries more than the job of the fields needs. */
 #define PLAIN_ROW(d, mode) \
     PLAIN_BLOCK(d), [MODE] = (mode), [DIRECTION] = LATCH_D135, [DELTA] = 2, [FLAGS_MORE] = LATCH_LUMA, [START] = 3
-/* Faults of every row, and those of the words 5, 6, 13 and 14 by the row's mode. */
-extern const struct faults row_faults;
+/* Faults of every row, mode 5, which the first library does not have, and faults of the words 5, 6, 13 and 14 by the row's mode. */
+extern const struct faults row_faults, mode_5_faults;
 struct faults mode_faults(int64_t mode);
 
 typedef uint16_t row_words[LATCH_ROW_WORDS];

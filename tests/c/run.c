@@ -74,7 +74,8 @@ static uint32_t make(const struct call *call, const int64_t *f, bool *kept) {
 void test_run(void) {
     for (int64_t mode = 0; mode < 5; mode++) {
         int64_t d = 8 + 2 * (mode % 3);
-        struct call call = {.order = order, .tables = {size_faults, block_faults, row_faults, mode_faults(mode), FAULTS(faults)},
+        struct call call = {.order = order, .tables = {size_faults, block_faults, row_faults, mode_5_faults, mode_faults(mode),
+                                            FAULTS(faults)},
                             .make = make, .plain = {PLAIN_ROW(d, mode)}};
         snprintf(call.name, sizeof call.name, "latch_run D %d mode %d", (int)d, (int)mode);
         try_faults(&call);

@@ -34,7 +34,8 @@ static uint32_t make(const struct call *call, const int64_t *f, bool *kept) {
 }
 
 static struct call plain_call(int64_t d, int64_t mode) {
-    struct call call = {.order = order, .tables = {size_faults, block_faults, row_faults, mode_faults(mode), FAULTS(faults)},
+    struct call call = {.order = order, .tables = {size_faults, block_faults, row_faults, mode_5_faults, mode_faults(mode),
+                                            FAULTS(faults)},
                         .make = make, .plain = {PLAIN_ROW(d, mode)}};
     snprintf(call.name, sizeof call.name, "latch_run_job D %d mode %d", (int)d, (int)mode);
     return call;

@@ -1,7 +1,7 @@
 // mod.rs: latch_derive_params on windows of all shapes, depths and directions, at the limit of its sums, and with any parameters.
 mod cases;
-mod hold;
-mod limit;
+pub mod hold;
+pub mod limit;
 mod paper;
 mod places;
 

@@ -5,7 +5,6 @@ use crate::plan::row::{self, Row};
 use crate::plan::rules;
 use crate::random::Random;
 use crate::refusals;
-use crate::spec::Spec;
 
 /// Who writes and who reads each place of a plane, of 64 jobs at a time, one bit each; all zero between two uses.
 #[derive(Default)]
@@ -14,26 +13,23 @@ pub struct Marks {
     readers: Vec<u64>,
 }
 
-/// The places that a job reads, and the block that it writes; none of either where it fails 1 to 7.
-struct Touched {
-    read: Vec<usize>,
-    block: Option<Spec>,
+/// The places that a job reads and those that it writes; none of either where it fails 1 to 7.
+#[derive(Default)]
+pub struct Touched {
+    pub read: Vec<usize>,
+    pub written: Vec<usize>,
 }
 
 impl Touched {
-    fn of(row: &Row, width: usize, height: usize, differences: usize) -> Touched {
-        let mut touched = Touched { read: Vec::new(), block: None };
+    pub fn of(row: &Row, width: usize, height: usize, differences: usize) -> Touched {
+        let mut touched = Touched::default();
         if rules::job(row, width, height, differences) == 0 {
             let block = row::spec(row, width, height);
             refusals::places(&block, &mut touched.read);
-            touched.block = Some(block);
+            let samples = (0..block.b).flat_map(|r| (0..block.b).map(move |c| (r, c)));
+            touched.written.extend(samples.map(|(r, c)| usize::from(block.y + r) * width + usize::from(block.x + c)));
         }
         touched
-    }
-
-    fn written(&self) -> impl Iterator<Item = usize> + '_ {
-        let samples = self.block.iter().flat_map(|k| (0..k.b).flat_map(move |r| (0..k.b).map(move |c| (k, r, c))));
-        samples.map(|(k, r, c)| usize::from(k.y + r) * k.width + usize::from(k.x + c))
     }
 }
 
@@ -49,22 +45,27 @@ impl Clashes {
     }
 
     pub fn of(rows: &[Row], width: usize, height: usize, differences: usize, marks: &mut Marks) -> Clashes {
-        if marks.writers.len() < width * height {
-            *marks = Marks { writers: vec![0; width * height], readers: vec![0; width * height] };
-        }
         let touched: Vec<Touched> = rows.iter().map(|row| Touched::of(row, width, height, differences)).collect();
-        let mut clashes = Clashes { jobs: rows.len(), bits: vec![Vec::new(); rows.len()] };
+        Clashes::between(&touched, width * height, marks)
+    }
+
+    /// The clashes of jobs that touch places below a number.
+    pub fn between(touched: &[Touched], places: usize, marks: &mut Marks) -> Clashes {
+        if marks.writers.len() < places {
+            *marks = Marks { writers: vec![0; places], readers: vec![0; places] };
+        }
+        let mut clashes = Clashes { jobs: touched.len(), bits: vec![Vec::new(); touched.len()] };
         for part in touched.chunks(64) {
             for (bit, job) in part.iter().enumerate() {
-                job.written().for_each(|place| marks.writers[place] |= 1 << bit);
+                job.written.iter().for_each(|&place| marks.writers[place] |= 1 << bit);
                 job.read.iter().for_each(|&place| marks.readers[place] |= 1 << bit);
             }
-            for (met, job) in clashes.bits.iter_mut().zip(&touched) {
-                let by_writes = job.written().fold(0, |met, place| met | marks.writers[place] | marks.readers[place]);
+            for (met, job) in clashes.bits.iter_mut().zip(touched) {
+                let by_writes = job.written.iter().fold(0, |met, &place| met | marks.writers[place] | marks.readers[place]);
                 met.push(job.read.iter().fold(by_writes, |met, &place| met | marks.writers[place]));
             }
             for job in part {
-                job.written().for_each(|place| marks.writers[place] = 0);
+                job.written.iter().for_each(|&place| marks.writers[place] = 0);
                 job.read.iter().for_each(|&place| marks.readers[place] = 0);
             }
         }

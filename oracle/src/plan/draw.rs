@@ -8,7 +8,7 @@ use crate::refusals;
 use crate::spec::{most, DEPTHS, SIZES};
 
 /// Samples that a plane is tried with beside those of its depth; not all are refused at every depth.
-const SPECIAL: [f32; 9] =
+pub const SPECIAL: [f32; 9] =
     [f32::NAN, f32::INFINITY, f32::NEG_INFINITY, -0.0, 254.7, 255.00002, 0.499_999_97, 1023.5, 4095.0];
 
 /// A difference of one of five kinds: small, middling, at an end or about 0, any, 0.
@@ -23,7 +23,7 @@ fn difference(random: &mut Random, kind: usize) -> i16 {
 }
 
 /// Lays the jobs' differences out one after the other, or anywhere in one list, which may be too short for some of them.
-fn lay_differences(random: &mut Random, rows: &mut [Row]) -> Vec<i16> {
+pub fn lay_differences(random: &mut Random, rows: &mut [Row]) -> Vec<i16> {
     let samples = |row: &Row| if SIZES.contains(&row[B]) { usize::from(row[B]).pow(2) } else { 16 };
     let mut end = 0;
     for row in rows.iter_mut() {

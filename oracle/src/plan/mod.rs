@@ -1,6 +1,6 @@
 // mod.rs: latch_run and latch_run_job on plans of all kinds, in accepted orders and in others, against a plain runner.
 pub mod clashes;
-mod draw;
+pub mod draw;
 mod every;
 mod faults;
 pub mod guarded;

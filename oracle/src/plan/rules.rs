@@ -16,7 +16,7 @@ pub fn shape(plan: &Plan) -> u32 {
 }
 
 /// "the order does not hold each job's index once"
-fn each_once(order: &[u16]) -> bool {
+pub fn each_once(order: &[u16]) -> bool {
     let mut times = vec![0; order.len()];
     for &index in order {
         match times.get_mut(usize::from(index)) {
