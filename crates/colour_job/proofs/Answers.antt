@@ -23,12 +23,14 @@ use Rattle.colour_block.specs.Predicted.{chromaAt}
 use Rattle.colour_words.specs.declared.ColourWords.{ColourWords}
 use Rattle.colour_words.specs.Colour.{colourWindow, colourBlock, colourRect}
 use Rattle.colour_words.specs.Placed.{ColourLaid}
-use Rattle.colour_job.specs.Windows.{lumaIn, chromaIn, lumaRead, chromaRead, colourSmall, colourAnswer}
+use Rattle.colour_windows.specs.Windows.{lumaIn, chromaIn, lumaRead, chromaRead}
+use Rattle.colour_job.specs.Answer.{colourSmall, colourAnswer}
 use Rattle.colour_job.specs.Done.{colourParams, givenAt, colourAt, colourDone}
 use Rattle.colour_windows.specs.Held.{LumaHeld}
 use Rattle.colour_job.specs.Passed.{Passed, Given}
-use Rattle.colour_job.proofs.Held.{read-readable, held-chroma}
-use Rattle.colour_job.proofs.Same.{no-thirteen, sampled-params}
+use Rattle.colour_job.proofs.NoThirteen.{no-thirteen}
+use Rattle.colour_job.proofs.Held.{held-chroma}
+use Rattle.colour_job.proofs.Same.{readable-answer, sampled-params}
 
 module _ (W : ℕ) (c : ColourWords) (luma chroma : List Float) where
   -- 8
@@ -48,8 +50,8 @@ module _ (W : ℕ) (c : ColourWords) (luma chroma : List Float) where
   unfolding colourAnswer colourSmall
   answer-fourteen p g =
       ap (λ (d : Derived). d .answer) (g .is)
-      ∙ no-thirteen (colourWindow c) (theColour (c .direction)) (c .d) (lumaIn W c luma) (chromaIn W c chroma)
-      (read-readable (p .laid) luma chroma (p .luma-in) (p .chroma-in))
+      ∙ readable-answer (colourWindow c) (theColour (c .direction)) (c .d) (lumaIn W c luma) (chromaIn W c chroma)
+      (no-thirteen W (p .laid .H) c (p .laid .placed) luma (p .luma-in) chroma (p .chroma-in) .0)
       ∙ sym (λ j. cond (p .luma-in j && p .chroma-in j) (cond (colourSmall W c luma chroma) Done SumTooLarge) BadSample)
 
   -- its parameters

@@ -24,7 +24,8 @@ use Rattle.colour_words.specs.declared.ColourWords.{ColourWords}
 use Rattle.colour_words.specs.Colour.{colourWindow, colourBlock, lumaPlace, chromaPlace}
 use Rattle.colour_words.specs.Placed.{ColourPlaced}
 use Rattle.colour_words.proofs.Window.{InWindow, counted-in, direction-in, centre-needed-in, direction-needed-in}
-use Rattle.colour_job.specs.Windows.{lumaIn, chromaIn, lumaRead, chromaRead, colourSmall, colourAnswer}
+use Rattle.colour_windows.specs.Windows.{lumaIn, chromaIn, lumaRead, chromaRead}
+use Rattle.colour_job.specs.Answer.{colourSmall, colourAnswer}
 use Rattle.colour_job.specs.Done.{colourParams, colourAt}
 
 module _ (W H : ℕ) (c : ColourWords) (placed : ColourPlaced W H c) (luma luma′ chroma chroma′ : List Float)

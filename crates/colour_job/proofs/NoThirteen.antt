@@ -1,44 +1,30 @@
 -- "8 in place of 13" (document 02, request (v)): where the samples that a colour job reads are numbers in 0..M, refusal 13 is never given, neither of
 -- derivation nor of prediction. A reading is at most M, so that times 8 it is at most 8M. Assumes nothing.
 use mathlib.Core.Path.{_≡_, refl}
-use mathlib.Core.Bool.{Bool, true, _&&_}
+use mathlib.Core.Bool.{true}
 use mathlib.Core.List.{List}
-use Prim.Native.Nat.{ℕ, _+_, _*_, _<_}
+use Prim.Native.Nat.{ℕ, _+_, _*_}
 use native.Mathlib.Omega.{arith}
 use lib.IntN.{pos}
-use lib.Ieee.{Float, nan}
-use lib.ListN.{getD}
+use lib.Ieee.{Float}
 use Rattle.numbers.specs.Colour.{theColour}
 use Rattle.numbers.specs.Depth.{most}
 use Rattle.signed.specs.Range.{inside}
 use Rattle.signed.proofs.Range.{pos-inside}
-use Rattle.samples.specs.Sample.{isSample}
 use Rattle.samples.proofs.Reading.{reading-most}
-use Rattle.edge_line.proofs.Every.{every-at, every-all, and-of}
+use Rattle.edge_line.proofs.Every.{every-all, and-of}
 use Rattle.colour_samples.specs.Sample.{inRange, inRangeAt}
-use Rattle.colour_sums.specs.declared.window.Window.{Window}
-use Rattle.colour_sums.specs.Places.{counts, walk}
+use Rattle.colour_sums.specs.Places.{counts}
 use Rattle.colour_sums.specs.Sum.{isReadable}
-use Rattle.colour_sums.proofs.Walks.{rows-both, rows-true}
+use Rattle.colour_sums.proofs.Same.{walk-all}
 use Rattle.colour_rules.specs.Needed.{Place, valueAt, centreAt, directionAt}
 use Rattle.colour_rules.specs.Rules.{isLumaInRange}
 use Rattle.colour_words.specs.declared.ColourWords.{ColourWords}
-use Rattle.colour_words.specs.Colour.{colourWindow, colourBlock, lumaPlace}
+use Rattle.colour_words.specs.Colour.{colourWindow, colourBlock}
 use Rattle.colour_words.specs.Placed.{ColourPlaced}
 use Rattle.colour_words.proofs.Window.{InWindow, counted-in, direction-in, centre-needed-in, direction-needed-in}
-use Rattle.colour_job.specs.Windows.{lumaIn, chromaIn, lumaRead, chromaRead}
-
--- ---- a test of every place that counts: what it has shown, and how it is shown
-walk-at : (w : Window) (q : ℕ → ℕ → Bool) → walk w (λ x y ok. ok && q x y) true ≡ true → (x y : ℕ) → counts w x y ≡ true
-    → x < w .«ref_width» → y < w .«ref_height» → q x y ≡ true
-unfolding walk
-walk-at w q e x y k hx hy = rows-true w q (w .«ref_height») e x y hx hy k
-
-walk-all : (w : Window) (q : ℕ → ℕ → Bool) → ((x y : ℕ) → counts w x y ≡ true → q x y ≡ true) → walk w (λ x y ok. ok && q x y) true ≡ true
-unfolding walk
-walk-all w q each =
-    rows-both (λ (a b : Bool). a ≡ true) w (λ x y ok. ok && q x y) (λ x y ok. ok) (λ x y e a b r. and-of a (q x y) r (each x y e))
-    (w .«ref_height») true true refl
+use Rattle.colour_windows.specs.Windows.{lumaIn, chromaIn, lumaRead, chromaRead}
+use Rattle.colour_windows.proofs.Tested.{luma-at, chroma-at}
 
 module _ (W H : ℕ) (c : ColourWords) (placed : ColourPlaced W H c) where
   abbrev M : ℕ
@@ -46,18 +32,14 @@ module _ (W H : ℕ) (c : ColourWords) (placed : ColourPlaced W H c) where
 
   -- ---- what 8 has shown of a sample
   module _ (luma : List Float) (read : lumaRead W c luma ≡ true) where
-    luma-sample : (i j : ℕ) → InWindow c i j → isSample (pos M) (getD luma (lumaPlace W c i j) nan) ≡ true
-    unfolding lumaRead
-    luma-sample i j h = every-at _ (c .«ref_width») (every-at _ (c .«ref_height») read j (h .1)) i (h .0)
-
     luma-in : (i j : ℕ) → InWindow c i j → inside (pos (8 * M + 7)) (lumaIn W c luma i j) ≡ true
-    luma-in i j h = pos-inside (8 * M + 7) _ (omega (arith, reading-most (c .d) _ (placed .is-depth) (luma-sample i j h)))
+    luma-in i j h = pos-inside (8 * M + 7) _ (omega (arith, reading-most (c .d) _ (placed .is-depth) (luma-at W c luma read i j (h .0) (h .1))))
 
     needed-in : (q : Place) → InWindow c (q .x) (q .y) → inside (pos (8 * M + 7)) (valueAt (lumaIn W c luma) q) ≡ true
     needed-in q h = luma-in (q .x) (q .y) h
 
     -- ---- 13 of prediction
-    pub luma-in-range : isLumaInRange (lumaIn W c luma) (colourBlock c) ≡ true
+    luma-in-range : isLumaInRange (lumaIn W c luma) (colourBlock c) ≡ true
     unfolding isLumaInRange
     luma-in-range =
         every-all _ (c .height) (λ j hj. every-all _ (c .width) (λ i hi. and-of _ _
@@ -67,12 +49,9 @@ module _ (W H : ℕ) (c : ColourWords) (placed : ColourPlaced W H c) where
     -- ---- 13 of derivation
     module _ (chroma : List Float) (counted : chromaRead W c chroma ≡ true) where
       chroma-in : (i j : ℕ) → counts (colourWindow c) i j ≡ true → inside (pos M) (chromaIn W c chroma i j) ≡ true
-      unfolding chromaRead
-      chroma-in i j e =
-          let h = counted-in c i j e in
-          pos-inside M _ (reading-most (c .d) _ (placed .is-depth) (walk-at (colourWindow c) _ counted i j e (h .0) (h .1)))
+      chroma-in i j e = pos-inside M _ (reading-most (c .d) _ (placed .is-depth) (chroma-at W c chroma counted i j e))
 
-      pub window-readable : isReadable M (theColour (c .direction)) (lumaIn W c luma) (chromaIn W c chroma) (colourWindow c) ≡ true
+      window-readable : isReadable M (theColour (c .direction)) (lumaIn W c luma) (chromaIn W c chroma) (colourWindow c) ≡ true
       unfolding inRangeAt inRange
       window-readable =
           walk-all (colourWindow c) _ (λ x y e. and-of _ _

@@ -1,5 +1,5 @@
--- What a job derives and predicts hangs on its test and its sums, and on the places that the block needs: the same there is the same. And 13 cannot
--- arise where every sample passed 8. Assumes nothing.
+-- What a job derives and predicts hangs on its test and its sums, and on the places that the block needs: the same there is the same. And the
+-- answer of a window whose samples are in range. Assumes nothing.
 use mathlib.Core.Path.{_≡_, ap}
 use mathlib.Core.Bool.{Bool, true, cond}
 use mathlib.Core.List.{[], _∷_}
@@ -39,10 +39,10 @@ module _ (w : Window) (direction : ColourDirection) (D : ℕ) where
   sampled-same luma luma′ chroma chroma′ r s = λ j. given (r j) (s j)
 
   -- of a readable window the answer is done or 14
-  pub no-thirteen : (luma chroma : ℕ → ℕ → ℤ) → isReadable (most D) direction luma chroma w ≡ true
+  pub readable-answer : (luma chroma : ℕ → ℕ → ℤ) → isReadable (most D) direction luma chroma w ≡ true
       → sampled luma chroma w direction D .answer ≡ ladder (isSmall (sumsOf D direction luma chroma w) else SumTooLarge ∷ [])
   unfolding sampled
-  no-thirteen luma chroma e = ap (λ t. cond t (cond (isSmall (sumsOf D direction luma chroma w)) Done SumTooLarge) BadColourSample) e
+  readable-answer luma chroma e = ap (λ t. cond t (cond (isSmall (sumsOf D direction luma chroma w)) Done SumTooLarge) BadColourSample) e
 
   -- and a window that is done has its parameters
   pub sampled-params : (luma chroma : ℕ → ℕ → ℤ) → isDone (sampled luma chroma w direction D .answer) ≡ true

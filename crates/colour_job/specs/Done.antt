@@ -12,7 +12,8 @@ use Rattle.colour_params.specs.Derived.{windowParams}
 use Rattle.colour_block.specs.Predicted.{chromaAt}
 use Rattle.colour_words.specs.declared.ColourWords.{ColourWords}
 use Rattle.colour_words.specs.Colour.{colourWindow, colourBlock, colourRect}
-use Rattle.colour_job.specs.Windows.{lumaIn, chromaIn, colourAnswer}
+use Rattle.colour_windows.specs.Windows.{lumaIn, chromaIn}
+use Rattle.colour_job.specs.Answer.{colourAnswer}
 
 -- the parameters that the windows give
 abbrev pub colourParams : ℕ → ColourWords → List Float → List Float → Params

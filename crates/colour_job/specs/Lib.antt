@@ -1,5 +1,6 @@
--- A colour job over a luma plane and a chroma plane: what it reads of them, its test of that, and what it leaves, all to be believed.
-pub mod Windows
+-- A colour job over a luma plane and a chroma plane: its tests of what it reads, and what it leaves, all to be believed. What it reads stands in
+-- `colour_windows`, specs/Windows.
+pub mod Answer
 pub mod Done
 -- For the code: what it can count on between its steps.
 pub mod Passed

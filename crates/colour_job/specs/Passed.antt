@@ -13,7 +13,7 @@ use Rattle.colour_words.specs.declared.ColourWords.{ColourWords}
 use Rattle.colour_words.specs.Colour.{colourWindow}
 use Rattle.colour_words.specs.Placed.{ColourLaid}
 use Rattle.colour_windows.specs.Held.{LumaHeld}
-use Rattle.colour_job.specs.Windows.{lumaIn, chromaIn, lumaRead, chromaRead}
+use Rattle.colour_windows.specs.Windows.{lumaIn, chromaIn, lumaRead, chromaRead}
 
 -- the planes of a job whose samples passed 8
 pub record Passed (W : ℕ) (c : ColourWords) (luma chroma : List Float) : Type 0 where

@@ -20,7 +20,7 @@ use Rattle.colour_rules.specs.Placed.{InReference}
 use Rattle.colour_words.specs.declared.ColourWords.{ColourWords}
 use Rattle.colour_words.specs.Colour.{colourWindow, colourBlock}
 use Rattle.colour_words.specs.Placed.{ColourLaid}
-use Rattle.colour_windows.specs.Held.{aboveIn, belowIn, blockIn, InWindow}
+use Rattle.colour_windows.specs.Held.{aboveIn, belowIn, blockIn, PatchInWindow}
 
 -- ---- a place that counts is in one of two rectangles
 or-either : (a b : Bool) → (a || b) ≡ true → (a ≡ true) ⊎ (b ≡ true)
@@ -46,16 +46,16 @@ counted-where w x y e = go (counted w x y e) (in-lines w x y e) (below-or y (w .
 
 -- ---- rectangles of the windows
 module _ {size W : ℕ} {c : ColourWords} (l : ColourLaid size W c) where
-  pub above-in : InWindow c (aboveIn (colourWindow c))
+  pub above-in : PatchInWindow c (aboveIn (colourWindow c))
   above-in = let p = l .placed in (omega (arith, p .block-across, p .wide), omega (arith, p .block-down, p .high))
 
-  pub below-in : InWindow c (belowIn (colourWindow c))
+  pub below-in : PatchInWindow c (belowIn (colourWindow c))
   below-in = let p = l .placed in (omega (arith, p .block-across, p .wide), omega (arith, p .block-down, p .high))
 
-  pub block-in : InWindow c (blockIn c)
+  pub block-in : PatchInWindow c (blockIn c)
   block-in = (l .placed .block-across, l .placed .block-down)
 
-  pub wider-in : {p r : Patch} {up left : ℕ} → Widened p up left r → InWindow c p → InWindow c r
+  pub wider-in : {p r : Patch} {up left : ℕ} → Widened p up left r → PatchInWindow c p → PatchInWindow c r
   wider-in w h = (omega (arith, w .right, h .0), omega (arith, w .bottom, h .1))
 
   -- the block in its list
@@ -75,7 +75,7 @@ module _ {size W : ℕ} {c : ColourWords} (l : ColourLaid size W c) where
         side = p .side;
       }
 
-  module _ (p : Patch) (h : InWindow c p) where
+  module _ (p : Patch) (h : PatchInWindow c p) where
     pub luma-lies : Lies size W (c .«luma_x» + p .x) (c .«luma_y» + p .y) (p .w) (p .h)
     luma-lies = record {
       H = l .H;

@@ -24,7 +24,7 @@ use Rattle.colour_sums.proofs.Counted.{in-above, in-below}
 use Rattle.colour_sums.proofs.Same.{walk-true, walk-all}
 use Rattle.colour_words.specs.declared.ColourWords.{ColourWords}
 use Rattle.colour_words.specs.Colour.{colourWindow}
-use Rattle.colour_windows.specs.Windows.{lumaOk, chromaOk, lumaPasses, chromaPasses}
+use Rattle.colour_windows.specs.Windows.{lumaOk, chromaOk, lumaRead, chromaRead}
 use Rattle.colour_windows.specs.Held.{aboveIn, belowIn}
 use Rattle.colour_windows.proofs.Rects.{counted-where}
 
@@ -81,26 +81,29 @@ module _ (w : Window) (q : ℕ → ℕ → Bool) where
 
 -- ---- the two windows
 module _ (W : ℕ) (c : ColourWords) where
-  pub luma-at : (luma : List Float) → lumaPasses W c luma ≡ true → (i j : ℕ) → i < c .«ref_width» → j < c .«ref_height» → lumaOk W c luma i j ≡ true
+  pub luma-at : (luma : List Float) → lumaRead W c luma ≡ true → (i j : ℕ) → i < c .«ref_width» → j < c .«ref_height» → lumaOk W c luma i j ≡ true
+  unfolding lumaRead
   luma-at luma e i j a b =
       every-at (λ k. lumaOk W c luma k j) (c .«ref_width») (every-at (λ r. every (λ k. lumaOk W c luma k r) (c .«ref_width»))
       (c .«ref_height») e j b) i a
 
   pub chroma-read-is : (chroma : List Float)
-      → chromaPasses W c chroma ≡ (allOf (chromaOk W c chroma) (aboveIn (colourWindow c)) && allOf (chromaOk W c chroma) (belowIn (colourWindow c)))
+      → chromaRead W c chroma ≡ (allOf (chromaOk W c chroma) (aboveIn (colourWindow c)) && allOf (chromaOk W c chroma) (belowIn (colourWindow c)))
+  unfolding chromaRead
   chroma-read-is chroma = walk-both (colourWindow c) (chromaOk W c chroma)
 
   -- so it is refused by the first, and otherwise told by the second
   module _ (chroma : List Float) (first : Bool) (is : first ≡ allOf (chromaOk W c chroma) (aboveIn (colourWindow c))) where
-    pub chroma-refused : first ≡ false → false ≡ chromaPasses W c chroma
+    pub chroma-refused : first ≡ false → false ≡ chromaRead W c chroma
     chroma-refused e = sym (chroma-read-is chroma ∙ ap (λ b. b && allOf (chromaOk W c chroma) (belowIn (colourWindow c))) (sym is ∙ e))
 
     pub chroma-told : first ≡ true → (second : Bool) → second ≡ allOf (chromaOk W c chroma) (belowIn (colourWindow c))
-        → second ≡ chromaPasses W c chroma
+        → second ≡ chromaRead W c chroma
     chroma-told e second t = t ∙ sym (chroma-read-is chroma ∙ ap (λ b. b && allOf (chromaOk W c chroma) (belowIn (colourWindow c))) (sym is ∙ e))
 
-  pub chroma-at : (chroma : List Float) → chromaPasses W c chroma ≡ true → (i j : ℕ) → counts (colourWindow c) i j ≡ true
+  pub chroma-at : (chroma : List Float) → chromaRead W c chroma ≡ true → (i j : ℕ) → counts (colourWindow c) i j ≡ true
       → chromaOk W c chroma i j ≡ true
+  unfolding chromaRead
   chroma-at chroma e i j k = walk-true (colourWindow c) (chromaOk W c chroma) e i j k
 
 -- a sample that passed can be read

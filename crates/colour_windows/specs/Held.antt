@@ -32,8 +32,8 @@ abbrev pub blockIn : ColourWords → Patch
 blockIn c = record { x = c .«left_lines»; y = c .«above_lines»; w = c .width; h = c .height }
 
 -- a rectangle of the windows
-abbrev pub InWindow : ColourWords → Patch → Type 0
-InWindow c p = (p .x + p .w ≤ c .«ref_width») × (p .y + p .h ≤ c .«ref_height»)
+abbrev pub PatchInWindow : ColourWords → Patch → Type 0
+PatchInWindow c p = (p .x + p .w ≤ c .«ref_width») × (p .y + p .h ≤ c .«ref_height»)
 
 -- a list with room for a window
 abbrev pub Room : ColourWords → List ℤ → Type 0

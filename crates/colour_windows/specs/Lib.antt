@@ -1,3 +1,4 @@
--- A job's windows, as the code goes by them: what stands in them, the rectangles that are read, and what the lists hold then.
+-- A job's windows. Windows is to be believed: what stands in them, and the test of what is read. Held is what the code goes by: the rectangles that
+-- it reads, and what its lists hold then.
 pub mod Windows
 pub mod Held

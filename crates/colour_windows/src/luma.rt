@@ -11,8 +11,8 @@ ghost use lib.IntN.{pos};
 ghost use lib.ListN.{length};
 ghost use Rattle.numbers.specs.Depth.{most};
 ghost use Rattle.colour_words.specs.Placed.{ColourLaid};
-ghost use Rattle.colour_windows.specs.Windows.{lumaValue, lumaPasses};
-ghost use Rattle.colour_windows.specs.Held.{InWindow, Room, Around, Counted, LumaHeld};
+ghost use Rattle.colour_windows.specs.Windows.{lumaIn, lumaRead};
+ghost use Rattle.colour_windows.specs.Held.{PatchInWindow, Room, Around, Counted, LumaHeld};
 
 // "each sample's reading times 8"
 const TIMES: i32 = 8;
@@ -20,7 +20,7 @@ const TIMES: i32 = 8;
 // 8: whether each sample of the window is a number in 0..m.
 pub fn luma_read(luma: &[f32], width: usize, c: ColourWords, m: i32) -> bool
     requires { ⌜ ColourLaid (length (now luma)) width c × (m ≡ pos (most (c .d))) ⌝ }
-    ensures { λ r. ⌜ r ≡ lumaPasses width c (now (luma .entry)) ⌝ }
+    ensures { λ r. ⌜ r ≡ lumaRead width c (now (luma .entry)) ⌝ }
 {
     let window = Patch {
         x: c.luma_x as usize,
@@ -41,9 +41,9 @@ fn read_around(
     left: usize,
     window: &mut [i32],
 )
-    requires { ⌜ ColourLaid (length (now luma)) width c × Room c (now window) × (lumaPasses width c (now luma) ≡ true) ⌝ }
-    requires { ⌜ InWindow c p × (left ≤ p .x) × (up ≤ p .y) ⌝ }
-    ensures { λ _. ⌜ Around (lumaValue width c (now (luma .entry))) p up left (now (window .entry)) (now (window .exit)) ⌝ }
+    requires { ⌜ ColourLaid (length (now luma)) width c × Room c (now window) × (lumaRead width c (now luma) ≡ true) ⌝ }
+    requires { ⌜ PatchInWindow c p × (left ≤ p .x) × (up ≤ p .y) ⌝ }
+    ensures { λ _. ⌜ Around (lumaIn width c (now (luma .entry))) p up left (now (window .entry)) (now (window .exit)) ⌝ }
 {
     let x = c.luma_x as usize;
     let y = c.luma_y as usize;
@@ -52,8 +52,8 @@ fn read_around(
 
 // What the places that count need.
 fn read_counted(luma: &[f32], width: usize, c: ColourWords, window: &mut [i32])
-    requires { ⌜ ColourLaid (length (now luma)) width c × Room c (now window) × (lumaPasses width c (now luma) ≡ true) ⌝ }
-    ensures { λ _. ⌜ Counted c (lumaValue width c (now (luma .entry))) (now (window .entry)) (now (window .exit)) ⌝ }
+    requires { ⌜ ColourLaid (length (now luma)) width c × Room c (now window) × (lumaRead width c (now luma) ≡ true) ⌝ }
+    ensures { λ _. ⌜ Counted c (lumaIn width c (now (luma .entry))) (now (window .entry)) (now (window .exit)) ⌝ }
 {
     let w = c.window();
     let direction = c.block().colour();
@@ -65,8 +65,8 @@ fn read_counted(luma: &[f32], width: usize, c: ColourWords, window: &mut [i32])
 
 // What the places that count need, and what the block needs.
 pub fn read_luma(luma: &[f32], width: usize, c: ColourWords, window: &mut [i32])
-    requires { ⌜ ColourLaid (length (now luma)) width c × Room c (now window) × (lumaPasses width c (now luma) ≡ true) ⌝ }
-    ensures { λ _. ⌜ (length (now (window .exit)) ≡ length (now (window .entry))) × LumaHeld c (lumaValue width c (now (luma .entry))) (now (window .exit)) ⌝ }
+    requires { ⌜ ColourLaid (length (now luma)) width c × Room c (now window) × (lumaRead width c (now luma) ≡ true) ⌝ }
+    ensures { λ _. ⌜ (length (now (window .exit)) ≡ length (now (window .entry))) × LumaHeld c (lumaIn width c (now (luma .entry))) (now (window .exit)) ⌝ }
 {
     read_counted(luma, width, c, window);
     let b = c.block();

@@ -12,7 +12,7 @@ use Rattle.sides.specs.Read.{readRules}
 use Rattle.planes.specs.Three.{Three, planeIn}
 use Rattle.job.specs.Row.{Row, specOf}
 use Rattle.job.specs.Rules.{jobAnswer}
-use Rattle.colour_job.specs.Windows.{colourReadRules, colourAnswer}
+use Rattle.colour_job.specs.Answer.{colourReadRules, colourAnswer}
 use Rattle.tower_words.specs.Limits.{lumaPlane}
 use Rattle.tower_job.specs.Row.{baseRow, isColourMode, colourOfRow}
 use Rattle.tower_job.specs.Tests.{isTower}

@@ -22,7 +22,7 @@ use Rattle.job_work.proofs.Tested.{tested, read-on}
 use Rattle.job.specs.declared.job.Job.{Job}
 use Rattle.colour_words.specs.declared.ColourWords.{ColourWords}
 use Rattle.colour_words.specs.Placed.{ColourLaid}
-use Rattle.colour_job.specs.Windows.{colourAnswer}
+use Rattle.colour_job.specs.Answer.{colourAnswer}
 use Rattle.colour_job.specs.Done.{colourDone}
 use Rattle.tower_job.specs.Row.{baseRow, planeOf, isColourMode, colourOfRow}
 use Rattle.tower_job.specs.Rules.{towerAnswer, towerStands}

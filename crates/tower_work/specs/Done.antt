@@ -12,7 +12,7 @@ use Rattle.sides.specs.Read.{readRules}
 use Rattle.planes.specs.Three.{Three, planeIn, withPlane}
 use Rattle.job.specs.Row.{Row, specOf}
 use Rattle.job_work.specs.Done.{jobDone}
-use Rattle.colour_job.specs.Windows.{colourReadRules}
+use Rattle.colour_job.specs.Answer.{colourReadRules}
 use Rattle.colour_job.specs.Done.{colourDone}
 use Rattle.tower_words.specs.Limits.{lumaPlane}
 use Rattle.tower_job.specs.Row.{baseRow, planeOf, isColourMode, colourOfRow}

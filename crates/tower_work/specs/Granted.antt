@@ -16,7 +16,7 @@ use Rattle.tower_job.specs.declared.tower.TowerMode.{TowerMode}
 use Rattle.tower_job.specs.declared.tower.TowerMode.the-variants.{Base, Colour}
 use Rattle.colour_words.specs.declared.ColourWords.{ColourWords}
 use Rattle.colour_words.specs.Placed.{ColourLaid}
-use Rattle.colour_job.specs.Windows.{colourAnswer}
+use Rattle.colour_job.specs.Answer.{colourAnswer}
 use Rattle.colour_job.specs.Done.{colourDone}
 
 abbrev pub three : List Float → List Float → List Float → Three Float

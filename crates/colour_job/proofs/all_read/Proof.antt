@@ -6,7 +6,7 @@ use mathlib.Core.Bool.{_&&_}
 use Prim.Native.Nat.{ℕ}
 use mir.Facts.{toZ-ofZ}
 use Rattle.colour_words.specs.Placed.{ColourLaid}
-use Rattle.colour_job.specs.Windows.{lumaRead, chromaRead}
+use Rattle.colour_windows.specs.Windows.{chromaRead}
 use Rattle.colour_job.proofs.all_read.Statement.{statement}
 use Rattle.colour_job.proofs.all_read.Tie as tie
 
@@ -14,7 +14,6 @@ luma-read-requires : tie.Need-luma-read-requires
 luma-read-requires c κs = search needs
 
 returns : tie.Need-returns
-unfolding lumaRead chromaRead
 returns c =
     let k = c .before in
     let a = k .before .before .before .args in
@@ -26,7 +25,6 @@ chroma-read-requires c κs =
     (subst (λ (n : ℕ). ColourLaid n (s .args .width) (s .args .c)) (sym (s .pre .1)) (s .pre .0), toZ-ofZ (s .fits .m) ∙ s .pre .2)
 
 returns-2 : tie.Need-returns-2
-unfolding lumaRead chromaRead
 returns-2 c =
     let k = c .before .before in
     let a = k .before .before .before .args in

@@ -10,19 +10,16 @@ use Rattle.colour_sums.specs.Sum.{Laid}
 use Rattle.colour_sums.specs.declared.window.Window.{Window}
 use Rattle.colour_rules.specs.declared.block.Block.{Block}
 use Rattle.colour_words.specs.Placed.{ColourLaid}
-use Rattle.colour_job.specs.Windows.{lumaRead, chromaRead}
 use Rattle.colour_job.proofs.Held.{held-derived}
 use Rattle.colour_job.proofs.derive.Statement.{statement}
 use Rattle.colour_job.proofs.derive.Tie as tie
 
 read-luma-requires : tie.Need-read-luma-requires
-unfolding lumaRead
 read-luma-requires c κs =
     let s = c .before .before .before in
     (s .pre .0 .laid, s .pre .2, s .pre .0 .luma-in)
 
 read-chroma-requires : tie.Need-read-chroma-requires
-unfolding chromaRead
 read-chroma-requires c κs =
     let s = c .before .before .before .before .before .before in
     let p = s .pre .0 in

@@ -76,7 +76,7 @@ write-block-requires c κs =
     let p = passed (e k) in
     let g = d k .derive .ensures in (
       (subst (λ (n : ℕ). ColourLaid n (t .args .width) (t .args .c)) (sym (p .same)) (p .laid), omega (arith, t .pre .1 .0, g .long), t .pre .1 .2),
-      held-in-range (p .laid) (t .args .luma .now) (t .args .chroma .now) _ (g .held) (p .luma-in),
+      held-in-range (p .laid) (t .args .luma .now) (t .args .chroma .now) _ (g .held) (p .luma-in) (p .chroma-in),
     )
 
 same-length-5 : tie.Need-same-length-5

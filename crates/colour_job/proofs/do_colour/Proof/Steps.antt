@@ -1,7 +1,7 @@
 -- What is known at each step of `do_colour`: what a job has that passed 8, and its answer. Assumes nothing.
 use borrow.Author.Tests.{not-false}
 use mathlib.Core.Path.{_≡_}
-use Rattle.colour_job.specs.Windows.{colourAnswer}
+use Rattle.colour_job.specs.Answer.{colourAnswer}
 use Rattle.colour_job.specs.Passed.{Passed}
 use Rattle.colour_job.proofs.Answers.{passed-eight, answer-fourteen}
 use Rattle.colour_job.proofs.do_colour.Tie as tie

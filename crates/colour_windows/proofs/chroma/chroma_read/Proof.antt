@@ -7,7 +7,7 @@ use mir.Facts.{toZ-ofZ}
 use Rattle.plane_windows.specs.declared.patch.Patch.{Patch}
 use Rattle.colour_words.specs.Colour.{colourWindow}
 use Rattle.colour_windows.specs.Windows.{chromaOk}
-use Rattle.colour_windows.specs.Held.{aboveIn, belowIn, InWindow}
+use Rattle.colour_windows.specs.Held.{aboveIn, belowIn, PatchInWindow}
 use Rattle.colour_windows.proofs.Rects.{above-in, below-in}
 use Rattle.colour_windows.proofs.Tested.{allOf, chroma-refused, chroma-told}
 use Rattle.colour_windows.proofs.chroma.chroma_read.Statement.{statement}
@@ -30,7 +30,7 @@ module _ (c : tie.After-above-in) where
 part-read-requires : tie.Need-part-read-requires
 part-read-requires c κs =
     let l = s c .pre .0 in
-    (l, toZ-ofZ (s c .fits .m) ∙ s c .pre .1, subst (InWindow (s c .args .c)) (sym (above-is c)) (above-in l))
+    (l, toZ-ofZ (s c .fits .m) ∙ s c .pre .1, subst (PatchInWindow (s c .args .c)) (sym (above-is c)) (above-in l))
 
 -- its test
 module _ (c : tie.After-part-read) where
@@ -65,7 +65,7 @@ module _ (c : tie.After-below-in) where
 part-read-requires-2 : tie.Need-part-read-requires-2
 part-read-requires-2 c κs =
     let b = t (u c) in
-    (b .pre .0, toZ-ofZ (b .fits .m) ∙ b .pre .1, subst (InWindow (b .args .c)) (sym (below-is c)) (below-in (b .pre .0)))
+    (b .pre .0, toZ-ofZ (b .fits .m) ∙ b .pre .1, subst (PatchInWindow (b .args .c)) (sym (below-is c)) (below-in (b .pre .0)))
 
 second : (c : tie.After-part-read2) → c .part-read2 .result ≡ ok (u (c .before)) (belowIn (colourWindow (t (u (c .before)) .args .c)))
 second c = c .part-read2 .ensures ∙ ap (ok (u (c .before))) (below-is (c .before))

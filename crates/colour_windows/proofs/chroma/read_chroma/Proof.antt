@@ -9,7 +9,7 @@ use Rattle.plane_windows.specs.declared.patch.Patch.{Patch}
 use Rattle.signed.proofs.Range.{and-both}
 use Rattle.colour_words.specs.Colour.{colourWindow, chromaPlace}
 use Rattle.colour_windows.specs.Windows.{chromaOk}
-use Rattle.colour_windows.specs.Held.{aboveIn, belowIn, InWindow, Sampled}
+use Rattle.colour_windows.specs.Held.{aboveIn, belowIn, PatchInWindow, Sampled}
 use Rattle.colour_windows.proofs.Rects.{above-in, below-in}
 use Rattle.colour_windows.proofs.Tested.{all-at, chroma-read-is}
 use Rattle.colour_windows.proofs.Read.{chroma-held}
@@ -48,7 +48,7 @@ read-part-requires c κs =
     let t = s k in (
       t .pre .0,
       t .pre .1,
-      subst (InWindow (t .args .c)) (sym (above-is k)) (above-in (t .pre .0)),
+      subst (PatchInWindow (t .args .c)) (sym (above-is k)) (above-in (t .pre .0)),
       subst (λ (p : Patch). Sampled (t .args .c) p (at t)) (sym (above-is k)) (both t .0),
     )
 
@@ -71,7 +71,7 @@ read-part-requires-2 c κs =
     let t = s (u k) in (
       t .pre .0,
       omega (arith, t .pre .1, k .before .before .read-part .ensures .long),
-      subst (InWindow (t .args .c)) (sym (below-is k)) (below-in (t .pre .0)),
+      subst (PatchInWindow (t .args .c)) (sym (below-is k)) (below-in (t .pre .0)),
       subst (λ (p : Patch). Sampled (t .args .c) p (at t)) (sym (below-is k)) (both t .1),
     )
 

@@ -16,8 +16,8 @@ use Rattle.plane_windows.specs.Into.{readAt}
 use Rattle.colour_words.specs.declared.ColourWords.{ColourWords}
 use Rattle.colour_words.specs.Colour.{chromaPlace}
 use Rattle.colour_words.specs.Placed.{ColourLaid}
-use Rattle.colour_windows.specs.Windows.{chromaValue}
-use Rattle.colour_windows.specs.Held.{InWindow, Sampled}
+use Rattle.colour_windows.specs.Windows.{chromaIn}
+use Rattle.colour_windows.specs.Held.{PatchInWindow, Sampled}
 use Rattle.colour_windows.proofs.Rects.{chroma-lies, in-rows}
 use Rattle.colour_windows.proofs.Tested.{readable, moved-place}
 use Rattle.colour_windows.proofs.Read.{into-as}
@@ -31,7 +31,7 @@ chroma-y-requires : tie.Need-chroma-y-requires
 chroma-y-requires c κs = c .before .before .pre .0 .placed .above-in
 
 -- what is asked of where the window stands, by any name of its place
-asked : {size W : ℕ} {c : ColourWords} (l : ColourLaid size W c) (p : Patch) (h : InWindow c p) (chroma : List Float)
+asked : {size W : ℕ} {c : ColourWords} (l : ColourLaid size W c) (p : Patch) (h : PatchInWindow c p) (chroma : List Float)
     → Sampled c p (λ i j. getD chroma (chromaPlace W c i j) nan)
     → (x y : ℕ) → x ≡ c .x - c .«left_lines» → y ≡ c .y - c .«above_lines»
     → Lies size W (x + p .x) (y + p .y) (p .w) (p .h)
@@ -76,7 +76,7 @@ returns : tie.Need-returns
 returns c =
     let k = c .before .before .before in
     let g = s k .args in
-    into-as (readAt 1 (g .width) (k .before .chroma-x .result) (k .chroma-y .result) (g .chroma .now)) (chromaValue (g .width) (g .c) (g .chroma .now))
+    into-as (readAt 1 (g .width) (k .before .chroma-x .result) (k .chroma-y .result) (g .chroma .now)) (chromaIn (g .width) (g .c) (g .chroma .now))
     (λ i j. ap pos (one-mul _) ∙ (λ t. pos (reading (getD (g .chroma .now) (placeAt (g .width) (x-is k t) (y-is k t) i j) nan))))
     (c .before .read-patch .ensures)
 

@@ -11,6 +11,7 @@ use Rattle.numbers.specs.Depth.{most}
 use Rattle.samples.specs.Sample.{isSample}
 use Rattle.edge_line.specs.Every.{every}
 use Rattle.colour_words.specs.Colour.{lumaPlace}
+use Rattle.colour_windows.specs.Windows.{lumaRead}
 use Rattle.colour_windows.proofs.Tested.{most-in}
 use Rattle.colour_windows.proofs.luma.luma_read.Statement.{statement}
 use Rattle.colour_windows.proofs.luma.luma_read.Tie as tie
@@ -44,6 +45,7 @@ all-samples-requires c κs =
     )
 
 returns : tie.Need-returns
+unfolding lumaRead
 returns c =
     let a = s (c .before) .args in
     subst (λ (m : ℤ). c .all-samples .result ≡ every (λ j. every (λ i. isSample m (getD (a .luma .now) (lumaPlace (a .width) (a .c) i j) nan))

@@ -9,7 +9,7 @@ use Rattle.signed.proofs.Range.{pos-inside}
 use Rattle.samples.specs.Sample.{Readable}
 use Rattle.plane_windows.specs.declared.patch.Patch.{Patch}
 use Rattle.plane_windows.specs.Lies.{placeAt}
-use Rattle.colour_windows.specs.Held.{InWindow}
+use Rattle.colour_windows.specs.Held.{PatchInWindow}
 use Rattle.colour_windows.proofs.Rects.{wider-in, luma-lies, in-rows}
 use Rattle.colour_windows.proofs.Tested.{luma-at, readable, moved-place}
 use Rattle.colour_windows.proofs.luma.read_around.Statement.{statement}
@@ -35,7 +35,7 @@ module _ (c : tie.After-widened) where
   abbrev r : Patch
   r = c .widened .result
 
-  r-in : InWindow (s .args .c) r
+  r-in : PatchInWindow (s .args .c) r
   r-in = wider-in (s .pre .0 .0) (c .widened .ensures) (s .pre .1 .0)
 
   can-read : (i j : ℕ) → i < r .w → j < r .h

@@ -8,7 +8,7 @@ use Rattle.plane_windows.specs.declared.patch.Patch.{Patch}
 use Rattle.colour_rules.specs.declared.block.Block.{Block}
 use Rattle.colour_rules.proofs.Before.{rows-one, columns-one}
 use Rattle.colour_words.specs.Colour.{colourWindow}
-use Rattle.colour_windows.specs.Held.{aboveIn, belowIn, InWindow}
+use Rattle.colour_windows.specs.Held.{aboveIn, belowIn, PatchInWindow}
 use Rattle.colour_windows.proofs.Rects.{above-in, below-in}
 use Rattle.colour_windows.proofs.Read.{counted-held}
 use Rattle.colour_windows.proofs.luma.read_counted.Statement.{statement}
@@ -53,8 +53,8 @@ module _ (c : tie.After-above-in) where
   above-is = c .above-in .ensures ∙ ap aboveIn (c .before .before .before .before .before .window .ensures)
 
   -- a rectangle from column 1 and row 1 on, or further on
-  held : (p q : Patch) → p ≡ q → InWindow (s .args .c) q → 1 ≤ q .x → 1 ≤ q .y
-      → InWindow (s .args .c) p × (c .before .columns-left .result ≤ p .x) × (c .before .before .rows-up .result ≤ p .y)
+  held : (p q : Patch) → p ≡ q → PatchInWindow (s .args .c) q → 1 ≤ q .x → 1 ≤ q .y
+      → PatchInWindow (s .args .c) p × (c .before .columns-left .result ≤ p .x) × (c .before .before .rows-up .result ≤ p .y)
   held p q e h x y =
       let way = theColour (s .args .c .direction) in
       rw e (h, omega (arith, left-is, columns-one way), omega (arith, up-is, rows-one way))

@@ -7,7 +7,7 @@ use Rattle.plane_windows.specs.declared.patch.Patch.{Patch}
 use Rattle.colour_rules.specs.Area.{upOf, besideOf}
 use Rattle.colour_rules.proofs.Bounds.{up-most, beside-most}
 use Rattle.colour_words.specs.Colour.{colourBlock}
-use Rattle.colour_windows.specs.Held.{blockIn, InWindow}
+use Rattle.colour_windows.specs.Held.{blockIn, PatchInWindow}
 use Rattle.colour_windows.proofs.Rects.{block-in, in-reference}
 use Rattle.colour_windows.proofs.Read.{luma-held}
 use Rattle.colour_windows.proofs.luma.read_luma.Statement.{statement}
@@ -43,7 +43,7 @@ module _ (c : tie.After-block-in) where
   left-is = c .before .beside-of .ensures ∙ ap besideOf (d .block .ensures)
 
   held : (p : Patch) → p ≡ blockIn (s .args .c)
-      → InWindow (s .args .c) p × (c .before .beside-of .result ≤ p .x) × (c .before .before .up-of .result ≤ p .y)
+      → PatchInWindow (s .args .c) p × (c .before .beside-of .result ≤ p .x) × (c .before .before .up-of .result ≤ p .y)
   held p e =
       let b = colourBlock (s .args .c) in
       let g = in-reference (s .pre .0) (s .pre .1) in

@@ -2,7 +2,7 @@
 use borrow.Author.Needs.{needs}
 use native.Mathlib.Omega.{arith}
 use Rattle.planes.specs.Three.{planeIn}
-use Rattle.colour_job.specs.Windows.{colourAnswer}
+use Rattle.colour_job.specs.Answer.{colourAnswer}
 use Rattle.colour_job.specs.Done.{colourDone}
 use Rattle.tower_work.proofs.Onto.{onto-1, onto-2}
 use Rattle.tower_work.proofs.colour.on_plane.Statement.{statement}
