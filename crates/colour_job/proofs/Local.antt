@@ -31,7 +31,7 @@ use Rattle.colour_job.specs.Done.{colourParams, colourAt}
 module _ (W H : ℕ) (c : ColourWords) (placed : ColourPlaced W H c) (luma luma′ chroma chroma′ : List Float)
     (agree-luma : (i j : ℕ) → i < c .«ref_width» → j < c .«ref_height» → getD luma (lumaPlace W c i j) nan ≡ getD luma′ (lumaPlace W c i j) nan)
     (agree-chroma : (i j : ℕ) → counts (colourWindow c) i j ≡ true
-      → getD chroma (chromaPlace W c i j) nan ≡ getD chroma′ (chromaPlace W c i j) nan) where
+    → getD chroma (chromaPlace W c i j) nan ≡ getD chroma′ (chromaPlace W c i j) nan) where
   -- ---- what the windows hold
   luma-same : (i j : ℕ) → InWindow c i j → lumaIn W c luma i j ≡ lumaIn W c luma′ i j
   luma-same i j h = ap (λ v. pos (8 * reading v)) (agree-luma i j (h .0) (h .1))

@@ -1,19 +1,15 @@
 -- Laws of a run's answer: an order is accepted exactly when it holds each job once and puts every clashing pair as the plan has it, and what 22 and
 -- 23 say. Assumes nothing.
-use mathlib.Core.Path.{_≡_, refl, _∙_, ap}
+use mathlib.Core.Path.{_≡_, refl, _∙_}
 use mathlib.Core.Logic.{_↔_}
-use mathlib.Core.Bool.{Bool, true, false, cond}
+use mathlib.Core.Bool.{true, false}
 use mathlib.Core.List.{List, []}
 use Prim.Native.Nat.{ℕ, _+_, _<_}
-use native.Mathlib.Omega.{arith}
 use lib.IntN.{ℤ}
 use lib.ListN.{length, getD}
-use Rattle.numbers.specs.Answer.{answerNumber}
-use Rattle.numbers.specs.declared.answer.Answer.{Answer}
 use Rattle.numbers.specs.declared.answer.Answer.the-variants.{Done, NotEachOnce, PairTurned}
 use Rattle.block_spec.specs.Rules.{isPlane}
 use Rattle.refusals.proofs.Ladder.{all-kept}
-use Rattle.reorder.specs.Test.{Decides}
 use Rattle.reorder.specs.Once.{Once}
 use Rattle.reorder.specs.Order.{Kept, Accepted, run, upFrom}
 use Rattle.reorder.specs.Swap.{swapped}

@@ -1,12 +1,12 @@
 -- Rectangles of planes in the tall picture: their samples are there those of the planes, and so the test of a clash is exact. Assumes nothing.
-use mathlib.Core.Path.{_≡_, refl, sym, _∙_, ap}
+use mathlib.Core.Path.{_≡_, refl, ap}
 use mathlib.Core.Logic.{_↔_, Iff·trans, _⊎_, inl, inr, ⊎-map}
 use mathlib.Core.List.{List, [], _∷_}
 use Prim.Native.Nat.{ℕ, _+_, _-_, _*_, _≤_, _<_}
 use native.Mathlib.Omega.{arith}
 use lib.Arith.{digits-lt}
 use Rattle.reorder.specs.Test.{Decides}
-use Rattle.reorder.specs.Rect.{Rect, In, InAny, AllWide, clashB}
+use Rattle.reorder.specs.Rect.{In, InAny, AllWide, clashB}
 use Rattle.reorder.proofs.Rect.{same-row, same-col}
 use Rattle.reorder.proofs.Cross.{clash-decides}
 use Rattle.planes.specs.Three.{PlanePlace}
@@ -84,9 +84,9 @@ module _ (W H : ℕ) where
       → ((p : ℕ) × InAny W (talls H a) p × (InAny W (talls H r) p ⊎ InAny W (talls H w) p)) ↔ Share a r w
   shares a r w wa wr ww = (
     λ s.
-      let d = downs a (s .0) (s .1) in
-      let h = all-held a wa (d .0) (d .2) in
-      (d .0, d .2, ⊎-map (λ i. back r wr (d .0) h (rw (← (d .1)) i)) (λ i. back w ww (d .0) h (rw (← (d .1)) i)) (s .2)),
+        let d = downs a (s .0) (s .1) in
+        let h = all-held a wa (d .0) (d .2) in
+        (d .0, d .2, ⊎-map (λ i. back r wr (d .0) h (rw (← (d .1)) i)) (λ i. back w ww (d .0) h (rw (← (d .1)) i)) (s .2)),
     λ s. (tallAt (s .0), ups a (s .0) (s .1), ⊎-map (ups r (s .0)) (ups w (s .0)) (s .2)),
   )
 

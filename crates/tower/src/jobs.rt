@@ -33,6 +33,15 @@ pub extern "C" fn tower_run(
 ) -> u32
     ensures { λ r. ⌜ TowerRanC width height (now (differences .entry)) (now (plan .entry)) (now (order .entry)) (three (now (plane0 .entry)) (now (plane1 .entry)) (now (plane2 .entry))) (now (answers .entry)) (three (now (plane0 .exit)) (now (plane1 .exit)) (now (plane2 .exit))) (now (answers .exit)) r ⌝ }
 {
-    tower_plan::run(plane0, plane1, plane2, width, height, plan, order, differences, answers)
-        .number()
+    tower_plan::run(
+        plane0,
+        plane1,
+        plane2,
+        width,
+        height,
+        plan,
+        order,
+        differences,
+        answers,
+    ).number()
 }

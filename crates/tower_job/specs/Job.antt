@@ -11,7 +11,7 @@ use Rattle.tower_job.specs.declared.tower.TowerJob.{TowerJob}
 use Rattle.tower_job.specs.declared.tower.FoundTower.{FoundTower}
 use Rattle.tower_job.specs.declared.tower.FoundTower.the-variants.{Is, Refused}
 
--- "Modes 0 to 4" are the first library's, by its own definitions
+-- modes 0 to 4 are the first library's, by its own definitions
 abbrev pub towerMode : Row → TowerMode
 towerMode row = cond (isColourMode row) (Colour (colourOfRow row)) (Base (jobOf (baseRow row)))
 

@@ -1,9 +1,9 @@
 // A row in one of the modes 0 to 4, or above 5: its first sixteen words are tested and read as the first library's, with 3 as a tower has it.
+use crate::row;
+use crate::tests;
 use crate::tower::FoundTower;
 use crate::tower::TowerJob;
 use crate::tower::TowerMode;
-use crate::row;
-use crate::tests;
 use block_spec::answer;
 use job::job::FoundJob;
 use numbers::answer::Answer;

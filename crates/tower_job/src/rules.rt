@@ -1,11 +1,11 @@
 // "Refusals: .. in mode 5 then 4 .., 10, 11 (sizes alone), 12" (document 02, request (v)): a row is tested and read into a job.
 use crate::base;
 use crate::colour;
+use crate::row;
+use crate::tests;
 use crate::tower::FoundTower;
 use crate::tower::TowerJob;
 use crate::tower::TowerMode;
-use crate::row;
-use crate::tests;
 use colour_terms::reference::Reference;
 use colour_words::ColourWords;
 use numbers::answer::Answer;
@@ -19,7 +19,7 @@ ghost use mathlib.Core.Bool.{true};
 ghost use lib.ListN.{length};
 ghost use Rattle.refusals.specs.Ladder.{ladder};
 ghost use Rattle.tower_job.specs.Row.{isColourMode};
-ghost use Rattle.tower_job.specs.Rules.{spanRules, towerAnswer};
+ghost use Rattle.tower_job.specs.Rules.{spanRules};
 ghost use Rattle.tower_job.specs.Job.{readTower};
 
 // 4, 10, 11 and 12 of mode 5.

@@ -12,7 +12,7 @@ use Rattle.reorder.specs.Order.{Sheet, run, upFrom}
 use Rattle.planes.specs.Three.{Three}
 use Rattle.tower_job.specs.Row.{towerRow}
 use Rattle.tower_work.specs.Jobs.{towerJobs}
-use Rattle.tower_work.specs.Granted.{three, ArePlanes}
+use Rattle.tower_work.specs.Granted.{ArePlanes}
 use Rattle.tower_order.specs.Rules.{towerJobsIn}
 use Rattle.tower_rules.specs.Rules.{towerRunAnswer}
 

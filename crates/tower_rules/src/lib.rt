@@ -1,4 +1,4 @@
-// "A run tests 20 to 23" (document 01, Refusal numbers, in order of checking), of a tower's run: "20 for any of the three planes", rows of 32 words.
+// "A run tests 20 to 23" (document 01, Refusal numbers, in order of checking), of a tower's run (document 02, request (v)): "All planes are W by H"; "21 for rows not 32 words".
 use numbers::answer::Answer;
 use numbers::plan::Plan;
 use tower_order::kept;

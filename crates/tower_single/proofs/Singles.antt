@@ -11,7 +11,7 @@ use Rattle.numbers.specs.Answer.{isDone}
 use Rattle.numbers.specs.declared.answer.Answer.{Answer}
 use Rattle.numbers.specs.declared.answer.Answer.the-variants.{BadPlane, BadPlan}
 use Rattle.refusals.specs.Ladder.{ladder}
-use Rattle.refusals.specs.Promise.{lent, Promise}
+use Rattle.refusals.specs.Promise.{lent}
 use Rattle.refusals.proofs.Promise.{refused}
 use Rattle.planes.specs.Three.{Three}
 use Rattle.job.specs.Row.{Row}

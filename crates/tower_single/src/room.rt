@@ -20,7 +20,14 @@ fn low(p0: &[f32], p1: &mut [f32], p2: &mut [f32], k: u16, width: usize, c: Colo
 }
 
 // One of at most 64 rows.
-fn middle(p0: &[f32], p1: &mut [f32], p2: &mut [f32], k: u16, width: usize, c: ColourWords) -> Answer
+fn middle(
+    p0: &[f32],
+    p1: &mut [f32],
+    p2: &mut [f32],
+    k: u16,
+    width: usize,
+    c: ColourWords,
+) -> Answer
     requires { ⌜ OnePlane (now p0) (now p1) (now p2) k × (1 ≤ k) × ColourLaid (length (now p0)) width c × (c .«ref_height» ≤ 64) ⌝ }
     ensures { λ r. ⌜ ColourOn width c k (three (now (p0 .entry)) (now (p1 .entry)) (now (p2 .entry))) (three (now (p0 .entry)) (now (p1 .exit)) (now (p2 .exit))) r ⌝ }
 {

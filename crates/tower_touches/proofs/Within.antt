@@ -1,7 +1,6 @@
 -- The rectangles of a tower's job lie in its planes. Assumes nothing.
 use mathlib.Core.Path.{_≡_, refl}
 use mathlib.Core.Bool.{Bool, true, false, _&&_}
-use mathlib.Core.List.{List, [], _∷_}
 use Prim.Native.Nat.{ℕ, _+_, _-_, _≤_, min}
 use native.Mathlib.Omega.{arith}
 use Rattle.signed.proofs.Range.{and-both}
@@ -14,7 +13,7 @@ use Rattle.job.proofs.Stands.{standing}
 use Rattle.touches.specs.Rects.{rectIf, runsOf}
 use Rattle.clash.specs.Hull.{onlyIf}
 use Rattle.colour_words.proofs.Planes.{luma-in-plane, block-in-plane, above-in-plane, beside-in-plane}
-use Rattle.tower_job.specs.Row.{baseRow, planeOf, isColourMode, colourOfRow}
+use Rattle.tower_job.specs.Row.{baseRow, planeOf, isColourMode}
 use Rattle.tower_job.specs.Rules.{towerStands}
 use Rattle.tower_job.proofs.Stands.{colour-placed, base-stands}
 use Rattle.tower_touches.specs.Touches.{writtenRect}

@@ -26,12 +26,15 @@ module _ (W n size k : ℕ) (m : TowerMode) (r : TowerRead W n size m k) where
   pub colour-asks : (c : ColourWords) → m ≡ Colour c → (1 ≤ k) × ColourLaid size W c × ColourRoom c 65536 65536 16384
   colour-asks c e =
       let t : (1 ≤ k) × ColourLaid size W c = subst (λ m. TowerRead W n size m k) e r in
-      let p = t .1 .placed in
-      (t .0, t .1, record {
-        luma-room = omega (arith, p .window-high);
-        chroma-room = omega (arith, p .window-high);
-        block-room = omega (arith, mul-le-mul (p .wide .1) (p .high .1));
-      })
+      let p = t .1 .placed in (
+        t .0,
+        t .1,
+        record {
+          luma-room = omega (arith, p .window-high);
+          chroma-room = omega (arith, p .window-high);
+          block-room = omega (arith, mul-le-mul (p .wide .1) (p .high .1));
+        },
+      )
 
 module _ (W k : ℕ) (differences : List ℤ) (m : TowerMode) (t t′ : Three Float) (r : Answer) where
   pub base-left : (job : Job) → m ≡ Base job → BaseOn W differences job k t t′ r → TowerLeft W differences m k t t′ r

@@ -1,5 +1,5 @@
 -- One plane of three becomes another: what a function leaves that works on plane 0, 1 or 2 by itself, and a plane that stays. Assumes nothing.
-use mathlib.Core.Path.{_≡_, refl, sym, _∙_, ap}
+use mathlib.Core.Path.{_≡_, refl, _∙_, ap}
 use mathlib.Core.Bool.{Bool, true, false, cond}
 use mathlib.Core.List.{List}
 use Prim.Native.Nat.{ℕ, _≤_}

@@ -2,33 +2,30 @@
 use mathlib.Core.Path.{_≡_, refl, sym, _∙_, ap, subst}
 use mathlib.Core.Bool.{Bool, true, false, cond}
 use mathlib.Core.List.{List}
-use Prim.Native.Nat.{ℕ, _*_, _≤_}
+use Prim.Native.Nat.{ℕ}
 use lib.IntN.{ℤ}
 use lib.Ieee.{Float}
 use lib.ListN.{length}
 use Rattle.numbers.specs.Answer.{isDone}
 use Rattle.numbers.specs.declared.answer.Answer.{Answer}
-use Rattle.refusals.specs.Promise.{lent, Promise}
+use Rattle.refusals.specs.Promise.{lent}
 use Rattle.refusals.proofs.Promise.{lent-refused, refused}
 use Rattle.block_spec.proofs.Placed.{plane-is}
 use Rattle.planes.specs.Three.{Three, planeIn, withPlane}
 use Rattle.job.specs.Row.{Row}
-use Rattle.job.specs.Rules.{jobAnswer, rowAnswer, stands}
+use Rattle.job.specs.Rules.{rowAnswer}
 use Rattle.job.specs.Job.{jobOf, readRow}
 use Rattle.job.specs.declared.job.FoundJob.the-variants as first
-use Rattle.job_work.specs.Done.{jobDone}
-use Rattle.job_work.specs.Granted.{Tested, readAnswer, readDone}
+use Rattle.job_work.specs.Granted.{readAnswer, readDone}
 use Rattle.job_work.proofs.Tested.{tested, read-on}
 use Rattle.job.specs.declared.job.Job.{Job}
 use Rattle.colour_words.specs.declared.ColourWords.{ColourWords}
-use Rattle.colour_words.specs.Placed.{ColourLaid}
 use Rattle.colour_job.specs.Answer.{colourAnswer}
 use Rattle.colour_job.specs.Done.{colourDone}
 use Rattle.tower_job.specs.Row.{baseRow, planeOf, isColourMode, colourOfRow}
-use Rattle.tower_job.specs.Rules.{towerAnswer, towerStands}
-use Rattle.tower_job.specs.Job.{towerMode, towerJob, readTower}
+use Rattle.tower_job.specs.Rules.{towerStands}
+use Rattle.tower_job.specs.Job.{readTower}
 use Rattle.tower_job.specs.declared.tower.TowerJob.{TowerJob}
-use Rattle.tower_job.specs.declared.tower.TowerMode.{TowerMode}
 use Rattle.tower_job.specs.declared.tower.TowerMode.the-variants.{Base, Colour}
 use Rattle.tower_job.specs.declared.tower.FoundTower.the-variants.{Is, Refused}
 use Rattle.tower_job.proofs.Read.{read-stands, read-job, refused-stands, answer-no}

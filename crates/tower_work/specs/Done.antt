@@ -1,5 +1,5 @@
 -- One job of a tower's run done: its answer, and the three planes afterwards (document 02, request (v)).
-use mathlib.Core.Bool.{Bool, cond}
+use mathlib.Core.Bool.{cond}
 use mathlib.Core.List.{List, _++_}
 use Prim.Native.Nat.{ℕ}
 use lib.IntN.{ℤ}
@@ -32,7 +32,7 @@ towerReadRules W row planes =
 unfoldable pub towerJobAnswer : ℕ → ℕ → ℕ → Row → Three Float → Answer
 towerJobAnswer W H n row planes = ladder (towerRules W H n row ++ towerReadRules W row planes)
 
--- the job's own plane afterwards: "Modes 0 to 4" are the first library's jobs
+-- the job's own plane afterwards: in modes 0 to 4 what the first library leaves of it
 abbrev pub ownDone : ℕ → ℕ → List ℤ → Row → Three Float → List Float
 ownDone W H differences row planes =
     cond (isColourMode row)

@@ -1,4 +1,4 @@
-// A job of the first library on its plane: "Modes 0 to 4" on any of the three planes (document 02, request (v)).
+// A job of the first library on its plane, any of the three, in modes 0 to 4 (document 02, request (v)).
 use job::job::Job;
 use numbers::answer::Answer;
 ghost use mathlib.Core.Path.{_≡_};

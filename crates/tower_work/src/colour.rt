@@ -1,7 +1,6 @@
 // A colour job on its plane: luma is plane 0's, chroma its own plane's, 1 or 2 (document 02, request (v)).
 use colour_words::ColourWords;
 use numbers::answer::Answer;
-ghost use mathlib.Core.Path.{_≡_};
 ghost use Prim.Native.Nat.{_≤_};
 ghost use lib.ListN.{length};
 ghost use Rattle.colour_words.specs.Placed.{ColourLaid};

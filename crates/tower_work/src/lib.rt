@@ -70,7 +70,18 @@ pub fn do_job(
     match tower_job::rules::read_row(width, height, differences.len(), row) {
         FoundTower::Refused(answer) => answer,
         FoundTower::Is(job) => {
-            do_read(p0, p1, p2, width, job, differences, luma, chroma, block, out)
+            do_read(
+                p0,
+                p1,
+                p2,
+                width,
+                job,
+                differences,
+                luma,
+                chroma,
+                block,
+                out,
+            )
         }
     }
 }

@@ -1,6 +1,6 @@
 -- `do_job` meets its contract: the row is read, and then its job is done. Assumes nothing.
 use borrow.Author.Needs.{needs}
-use mathlib.Core.Path.{_≡_, sym, _∙_}
+use mathlib.Core.Path.{sym, _∙_}
 use Rattle.tower_work.proofs.Read.{read-asks, not-read, read-left}
 use Rattle.tower_work.proofs.do_job.Statement.{statement}
 use Rattle.tower_work.proofs.do_job.Tie as tie

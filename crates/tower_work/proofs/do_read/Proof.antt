@@ -1,8 +1,6 @@
 -- `do_read` meets its contract: by its mode. Assumes nothing.
 use borrow.Author.Needs.{needs}
 use Rattle.tower_work.proofs.Modes.{base-asks, colour-asks, base-left, colour-left}
-use mathlib.Core.Path.{_≡_, sym, _∙_, subst}
-use Prim.Native.Nat.{_≤_}
 use native.Mathlib.Omega.{arith}
 use Rattle.tower_work.proofs.do_read.Statement.{statement}
 use Rattle.tower_work.proofs.do_read.Tie as tie

@@ -2,7 +2,7 @@
 use borrow.Author.Needs.{needs}
 use borrow.Author.Tests.{not-true, not-false}
 use mathlib.Core.Path.{_≡_, sym, _∙_, ap}
-use mathlib.Core.Bool.{true, cond}
+use mathlib.Core.Bool.{cond}
 use Rattle.numbers.specs.Answer.{isDone}
 use Rattle.job.specs.Row.{specOf}
 use Rattle.job.specs.Rules.{rowAnswer, stands}

@@ -1,3 +1,4 @@
+-- `base_word` meets its contract: the word is one of the first sixteen. Assumes nothing.
 use borrow.Author.Needs.{needs}
 use mathlib.Core.Path.{_∙_, sym, ap}
 use native.Mathlib.Omega.{arith}
@@ -18,7 +19,7 @@ shared-slice-read-result : tie.Need-shared-slice-read-result
 shared-slice-read-result c = omega (arith, c .before .place .ensures, word-below (c .before .before .before .args .w), c .before .before .before .pre)
 
 returns : tie.Need-returns
-returns c = 
+returns c =
     let a = c .before .before .before .args in
     ap (λ i. getD (a .row .now) i 0) (c .before .place .ensures) ∙ sym (getD-take 16 (a .row .now) (wordPlace (a .w)) 0 (word-below (a .w)))
 

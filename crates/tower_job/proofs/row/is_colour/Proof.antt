@@ -1,3 +1,4 @@
+-- `is_colour` meets its contract. Assumes nothing.
 use borrow.Author.Needs.{needs}
 use mathlib.Core.Path.{ap}
 use lib.Dec.{eqb}

@@ -1,3 +1,4 @@
+-- `word` meets its contract: a word's place is in the row. Assumes nothing.
 use borrow.Author.Needs.{needs}
 use mathlib.Core.Path.{ap}
 use native.Mathlib.Omega.{arith}

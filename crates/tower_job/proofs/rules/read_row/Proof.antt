@@ -1,6 +1,5 @@
 -- `read_row` meets its contract. Assumes nothing.
 use borrow.Author.Needs.{needs}
-use borrow.Author.Tests.{not-false}
 use mathlib.Core.Path.{sym, _∙_}
 use Rattle.tower_job.proofs.rules.read_row.Statement.{statement}
 use Rattle.tower_job.proofs.rules.read_row.Tie as tie

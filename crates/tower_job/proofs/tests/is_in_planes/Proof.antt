@@ -1,3 +1,4 @@
+-- `is_in_planes` meets its contract, sum by sum. Assumes nothing.
 use borrow.Author.Needs.{needs}
 use mathlib.Core.Bool.{_&&_}
 use Rattle.tower_job.specs.Tests.{isInPlanes}
@@ -24,7 +25,7 @@ is-span-requires-6 c κs = search needs
 
 returns : tie.Need-returns
 unfolding isInPlanes
-returns c = 
+returns c =
     λ j. c .before .before .before .before .before .is-span .ensures j && c .before .before .before .before .is-span2 .ensures j
     && c .before .before .before .is-span3 .ensures j && c .before .before .is-span4 .ensures j && c .before .is-span5 .ensures j && c .is-span6 .ensures j
 

@@ -1,9 +1,7 @@
+-- `is_span` meets its contract. Assumes nothing.
 use borrow.Author.Needs.{needs}
 use borrow.Author.Tests.{le-leb, lt-leb}
-use mathlib.Core.Path.{sym, ap}
-use mathlib.Core.Bool.{_&&_}
-use Prim.Native.Nat.{_+_, _-_}
-use lib.Dec.{leb}
+use Prim.Native.Nat.{_-_}
 use Rattle.tower_job.specs.Tests.{isSpan}
 use Rattle.tower_job.proofs.tests.is_span.Statement.{statement}
 use Rattle.tower_job.proofs.tests.is_span.Tie as tie

@@ -1,3 +1,4 @@
+-- `is_spare` meets its contract, word by word. Assumes nothing.
 use borrow.Author.Needs.{needs}
 use mathlib.Core.Bool.{_&&_}
 use lib.Dec.{eqb}
@@ -19,7 +20,7 @@ word-requires-4 c κs = search needs
 
 returns : tie.Need-returns
 unfolding isSpare
-returns c = 
+returns c =
     λ j. eqb (c .before .before .before .word .ensures j) 0 && eqb (c .before .before .word2 .ensures j) 0 && eqb (c .before .word3 .ensures j) 0
     && eqb (c .word4 .ensures j) 0
 

@@ -1,3 +1,4 @@
+-- `is_tower` meets its contract, test by test. Assumes nothing.
 use borrow.Author.Needs.{needs}
 use mathlib.Core.Bool.{not, _&&_}
 use lib.Dec.{eqb, leb}
@@ -22,7 +23,7 @@ is-spare-requires c κs = search needs
 
 returns : tie.Need-returns
 unfolding isTower
-returns c = 
+returns c =
     let p = c .before .before .before .before .word .ensures in
     λ j. leb (p j) 2 && not (c .before .before .before .is-colour .ensures j && eqb (p j) 0) && leb (c .before .before .word2 .ensures j) 1
     && leb (c .before .word3 .ensures j) 1 && c .is-spare .ensures j

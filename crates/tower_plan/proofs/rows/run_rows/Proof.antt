@@ -3,7 +3,7 @@ use borrow.Author.Needs.{needs}
 use Prim.Native.Nat.{_-_, _*_}
 use native.Mathlib.Omega.{arith}
 use mathlib.Core.Path.{refl, sym, _∙_, subst}
-use lib.ListN.{length, length-set}
+use lib.ListN.{length-set}
 use Rattle.lists.proofs.Block.{part-length}
 use Rattle.numbers.proofs.Most.{answer-most}
 use Rattle.planes.specs.Three.{Sized}

@@ -1,9 +1,7 @@
 -- `on_plane` meets its contract: the job is done on the plane that its number names. Assumes nothing.
 use borrow.Author.Needs.{needs}
 use lib.ListN.{length}
-use borrow.Author.Tests.{eqb-true, eqb-false}
-use mathlib.Core.Path.{_≡_, sym, subst}
-use Prim.Native.Nat.{_≤_}
+use mathlib.Core.Path.{sym, subst}
 use native.Mathlib.Omega.{arith}
 use Rattle.job_work.specs.Granted.{Tested, readAnswer, readDone}
 use Rattle.tower_work.proofs.Onto.{onto-0, onto-1, onto-2}

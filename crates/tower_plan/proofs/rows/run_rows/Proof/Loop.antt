@@ -17,7 +17,7 @@ abbrev pub Inv-loop : tie.InvT-loop
 Inv-loop p0₀ p1₀ p2₀ width height plan order differences answers₀ luma₀ chroma₀ block₀ out₀ k₀ p0 p1 p2 answers luma chroma block out k =
     (k ≤ length order) × Sized (width * height) (three p0 p1 p2) × (length answers ≡ length answers₀)
     × (towerMemory width height differences (three p0 p1 p2) answers
-      ≡ towerInOrder width height differences plan (take k order) (towerMemory width height differences (three p0₀ p1₀ p2₀) answers₀))
+    ≡ towerInOrder width height differences plan (take k order) (towerMemory width height differences (three p0₀ p1₀ p2₀) answers₀))
     × (length luma ≡ 65536) × (length chroma ≡ 65536) × (length block ≡ 16384) × (length out ≡ 4096)
 
 abbrev pub μ-loop : tie.MeasureT-loop
