@@ -77,7 +77,10 @@ static void none_counted(void) {
     }
 }
 
-/* One sample counts, and chroma is 100 there. All luma is the same, so that the parameters tell that chroma back, but for their rounding. */
+/* One sample counts, and chroma is 100 there. All luma is 200, so that the three terms are 200, (200 x 200 + 128) / 256 = 156 and 128, and
+ * the matrix is their products times 64, with 2 more on the diagonal. The elimination makes its rows 1, 51111, 41938 = 32764; 1, 32528 = 74024;
+ * 1 = 43688 (the leading 1 is 65536), so that the parameters are -36012, 52340 and 43688. Their products with the terms are -110, 125 and 85
+ * when divided by 65536 and rounded, which is 100 again. */
 static void one_counted(void) {
     const int64_t f[FIELDS_MOST] = {ANY_COLOUR(8), [WIDTH] = 8, [HEIGHT] = 8, [PLANE_NUMBER] = 1, [X] = 4, [Y] = 4, [LUMA_X] = 1,
                                     [LUMA_Y] = 2, [LEFT_LINES] = 2, [ABOVE_LINES] = 2, [REF_WIDTH] = 3, [REF_HEIGHT] = 3,
@@ -89,8 +92,10 @@ static void one_counted(void) {
     set_sample(&planes, 0, 0, 200.0f);
     set_sample(&planes, 1, 3 * 8 + 3, 100.0f);
     uint32_t answer = tower_job(&planes, 8, 8, row, TOWER_ROW_WORDS, NULL, 0);
-    float got = planes.lent[1][4 * 8 + 4];
-    check(answer == LATCH_DONE && got >= 99.0f && got <= 101.0f, "one sample counts: %u, the block is %g", answer, (double)got);
+    float *due = zone_due(&planes.zones[1]);
+    due[4 * 8 + 4] = 100.0f;
+    bool kept = planes_kept(&planes);
+    check(answer == LATCH_DONE && kept, "one sample counts: %u, the block is %g, kept %d", answer, (double)planes.lent[1][4 * 8 + 4], kept);
 }
 
 void test_tower_colour(void) {

@@ -83,7 +83,7 @@ static const struct fault of_colour_row[] = {
     {"direction and delta 65535", LATCH_DONE, {{DIRECTION, 65535}, {DELTA, 65535}}, 0},
     {"flags 65535", LATCH_DONE, {{FLAGS_MORE, 65535}}, 0},
     {"counts 65535", LATCH_DONE, {{TOP_RIGHT, 65535}, {BOTTOM_LEFT, 65535}, {AVAILABLE_ABOVE, 65535}, {AVAILABLE_LEFT, 65535}}, 0},
-    {"base and max words 0", LATCH_DONE, {{BASE, 0}, {MAX_WIDTH, 65535}, {MAX_HEIGHT, 65535}}, 0},
+    {"base 0, max words 65535", LATCH_DONE, {{BASE, 0}, {MAX_WIDTH, 65535}, {MAX_HEIGHT, 65535}}, 0},
     {"differences that start past their end", LATCH_DONE, {{START, 65535}, {DIFFERENCES_MORE, INT64_C(-16) * 65535}}, 0},
 };
 

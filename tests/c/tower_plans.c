@@ -97,23 +97,15 @@ static void answers_at_rows(void) {
                                   [TOWER_HEIGHT] = 1, [TOWER_LUMA_X] = 1, [TOWER_LUMA_Y] = (uint16_t)(i + 10)};
         memcpy(jobs[i], i < COLOURS ? plain : colour, sizeof jobs[i]);
     }
-    jobs[1][LATCH_B] = 5;
-    jobs[2][LATCH_D] = 9;
-    jobs[3][LATCH_MODE] = 6;
-    jobs[4][LATCH_X] = WIDTH_OF - 3;
-    jobs[5][LATCH_FLAGS] = LATCH_HAVE_ABOVE;
-    jobs[6][LATCH_BASE] = 0;
-    jobs[7][LATCH_DIFFERENCES] = 5;
-    jobs[8][LATCH_X] = 5, jobs[8][LATCH_Y] = 31, jobs[8][TOWER_PLANE] = 0, jobs[8][LATCH_FLAGS] = LATCH_HAVE_ABOVE;
-    jobs[8][LATCH_AVAILABLE_ABOVE] = 1;
-    jobs[10][TOWER_COLOUR_DIRECTION] = 3;
-    jobs[11][TOWER_REF_WIDTH] = 257, jobs[11][LATCH_X] = 100;
-    jobs[12][TOWER_WIDTH] = 5;
-    jobs[13][TOWER_LUMA_Y] = 30, jobs[13][TOWER_LUMA_X] = 5;
-    /* 254 x 3 = 762 samples count, which is too many at 12 bits */
-    jobs[14][LATCH_Y] = 34, jobs[14][TOWER_ABOVE_LINES] = 4, jobs[14][TOWER_REF_WIDTH] = 256, jobs[14][TOWER_REF_HEIGHT] = 5;
-    jobs[14][LATCH_X] = 140, jobs[14][TOWER_LUMA_X] = 144, jobs[14][TOWER_LUMA_Y] = 20;
-    jobs[15][LATCH_X] = 65535;
+    static const struct { uint16_t row, word, value; } sets[] = {
+        {1, LATCH_B, 5}, {2, LATCH_D, 9}, {3, LATCH_MODE, 6}, {4, LATCH_X, WIDTH_OF - 3}, {5, LATCH_FLAGS, LATCH_HAVE_ABOVE},
+        {6, LATCH_BASE, 0}, {7, LATCH_DIFFERENCES, 5}, {8, LATCH_X, 5}, {8, LATCH_Y, 31}, {8, TOWER_PLANE, 0},
+        {8, LATCH_FLAGS, LATCH_HAVE_ABOVE}, {8, LATCH_AVAILABLE_ABOVE, 1}, {10, TOWER_COLOUR_DIRECTION, 3}, {11, TOWER_REF_WIDTH, 257},
+        {11, LATCH_X, 100}, {12, TOWER_WIDTH, 5}, {13, TOWER_LUMA_Y, 30}, {13, TOWER_LUMA_X, 5},
+        /* 254 x 3 = 762 samples count, which is too many at 12 bits */
+        {14, LATCH_Y, 34}, {14, TOWER_ABOVE_LINES, 4}, {14, TOWER_REF_WIDTH, 256}, {14, TOWER_REF_HEIGHT, 5}, {14, LATCH_X, 140},
+        {14, TOWER_LUMA_X, 144}, {14, TOWER_LUMA_Y, 20}, {15, LATCH_X, 65535}};
+    for (size_t i = 0; i < COUNT(sets); i++) jobs[sets[i].row][sets[i].word] = sets[i].value;
     for (size_t turn = 0; turn < JOBS; turn++) {
         uint16_t order[JOBS];
         for (size_t i = 0; i < JOBS; i++) order[i] = (uint16_t)((i + turn) % JOBS);

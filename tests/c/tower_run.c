@@ -15,7 +15,8 @@ static const uint32_t order[] = {
     LATCH_BAD_LINES, LATCH_BAD_SAMPLE, LATCH_SUM_TOO_LARGE, LATCH_DONE};
 
 /* The first row is the fields', on plane 0 or 1. The two others touch on plane 2, and the right one, a colour job, reads the left. Its luma
- * window stands in the last row, where the first row's plain job neither reads nor writes. They need sixteen differences. */
+ * window is in the last three rows and last four columns, where the first row's plain job neither reads nor writes. They need sixteen
+ * differences. */
 static const tower_row others[] = {
     {[LATCH_X] = 0, [LATCH_Y] = 0, [LATCH_B] = 4, [LATCH_D] = 10, [LATCH_BASE] = 1022, [TOWER_PLANE] = 2},
     {[LATCH_X] = 2, [LATCH_Y] = 4, [LATCH_D] = 12, [LATCH_MODE] = TOWER_MODE_COLOUR, [TOWER_PLANE] = 2, [TOWER_ABOVE_LINES] = 2,
@@ -39,7 +40,7 @@ static const struct fault faults[] = {
     {"a row less", LATCH_BAD_PLAN, {{WORDS_MORE, -TOWER_ROW_WORDS}}, 0},
     {"a row more", LATCH_BAD_PLAN, {{WORDS_MORE, TOWER_ROW_WORDS}}, 0},
     {"order and answers of two", LATCH_BAD_PLAN, {{ORDER_MORE, -1}, {ANSWERS_MORE, -1}}, BIT(WORDS_MORE)},
-    {"order and answers of six", LATCH_BAD_PLAN, {{ORDER_MORE, 1}, {ANSWERS_MORE, 1}}, BIT(WORDS_MORE)},
+    {"order and answers of four", LATCH_BAD_PLAN, {{ORDER_MORE, 1}, {ANSWERS_MORE, 1}}, BIT(WORDS_MORE)},
     {"order 1 0 2", LATCH_DONE, {{ORDER, 1}}, ROW_BITS},
     {"order 1 2 0", LATCH_DONE, {{ORDER, 2}}, ROW_BITS},
     {"order 0 2 1", LATCH_PAIR_TURNED, {{ORDER, 3}}, 0},

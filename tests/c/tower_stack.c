@@ -34,6 +34,7 @@ static void *in_thread(void *number) {
 void test_tower_stack(void) {
     for (size_t i = 0; i < (size_t)SIDE * SIDE; i++)
         for (size_t p = 0; p < TOWER_PLANES; p++) planes[p][i] = (float)(i * (2 * p + 3) % 64);
+    for (int j = 0; j < JOBS; j++) answers[j] = 99;
     pthread_attr_t attributes;
     pthread_t thread;
     uint32_t number = 99;

@@ -64,7 +64,7 @@ static void on_chroma(void) {
         {"it starts in the last column but one over the block", 1, 14, 10, LATCH_PAIR_TURNED},
         {"it starts in the window's last row", 1, 4, 13, LATCH_DONE}, {"it starts in the last row but one", 1, 4, 12, LATCH_PAIR_TURNED},
         {"it starts right of the block", 1, 15, 11, LATCH_DONE}, {"it starts in the block's last sample", 1, 14, 12, LATCH_PAIR_TURNED},
-        {"the same place of luma", 0, 16, 14, LATCH_DONE},
+        {"the same place of luma", 0, 14, 12, LATCH_PAIR_TURNED}, {"past the luma window's last corner", 0, 16, 14, LATCH_DONE},
     };
     for (size_t i = 0; i < COUNT(tries); i++) {
         const struct set sets[3] = {{0, TOWER_PLANE, tries[i].plane}, {0, LATCH_X, tries[i].x}, {0, LATCH_Y, tries[i].y}};
@@ -72,7 +72,7 @@ static void on_chroma(void) {
     }
 }
 
-/* Jobs that 8 and 14 refuse still clash; in the plan's own order their answers stand. */
+/* Jobs that 8 and 14 refuse still clash with what they would read, and with nothing beside it; where no pair is turned their answers stand. */
 static void refused_by_samples(void) {
     const struct set none[3] = {{0, 0, 0}}, deep[3] = {{1, LATCH_D, 12}};
     ordered("a luma sample that is NaN", forwards, none, 13 * SIDE + 15, LATCH_DONE, LATCH_DONE, LATCH_BAD_SAMPLE);
@@ -88,20 +88,26 @@ static void refused_by_samples(void) {
     tower_row jobs[2];
     memcpy(jobs[0], pair[0], sizeof jobs[0]);
     memcpy(jobs[1], wide, sizeof wide);
-    for (int k = 0; k < 4; k++) {
-        uint16_t answers[2] = {0};
+    /* the block of luma in the luma window, whose columns are 6 to 35, in its last column and beside it */
+    static const struct { uint16_t x, b; const uint16_t *order; uint32_t due; } tries[] = {
+        {4, 8, forwards, LATCH_DONE}, {4, 8, backwards, LATCH_PAIR_TURNED}, {28, 4, backwards, LATCH_PAIR_TURNED},
+        {35, 4, backwards, LATCH_PAIR_TURNED}, {36, 4, backwards, LATCH_DONE}};
+    for (size_t i = 0; i < COUNT(tries); i++) {
+        uint16_t answers[2] = {99, 99};
         bool kept = false;
-        jobs[0][LATCH_X] = k < 2 ? 4 : 36 - 8 * (k == 3);
-        jobs[0][LATCH_B] = k < 2 ? 8 : 4;
-        struct run run = {SIDE, SIDE, NOWHERE, jobs[0], k % 2 ? backwards : forwards, 2 * TOWER_ROW_WORDS, 2, 2};
-        uint32_t got = tower_kept(&run, answers, &kept), due = k % 2 ? LATCH_PAIR_TURNED : LATCH_DONE;
-        check(got == due && kept, "a job that 14 refuses, %d: %u, not %u, kept %d", k, got, due, kept);
+        jobs[0][LATCH_X] = tries[i].x;
+        jobs[0][LATCH_B] = tries[i].b;
+        struct run run = {SIDE, SIDE, NOWHERE, jobs[0], tries[i].order, 2 * TOWER_ROW_WORDS, 2, 2};
+        uint32_t got = tower_kept(&run, answers, &kept), due = tries[i].due;
+        check(got == due && kept, "a job that 14 refuses, %zu: %u, not %u, kept %d", i, got, due, kept);
         if (due == LATCH_DONE)
-            check(answers[0] == LATCH_DONE && answers[1] == LATCH_SUM_TOO_LARGE, "a job that 14 refuses: answers %u, %u", answers[0], answers[1]);
+            check(answers[0] == LATCH_DONE && answers[1] == LATCH_SUM_TOO_LARGE, "a job that 14 refuses, %zu: answers %u, %u", i, answers[0],
+                  answers[1]);
     }
 }
 
-/* Two jobs at one place of different planes, in each order: each plane is as if the other job were not there. */
+/* Two jobs at one place of different planes, with either plane first in the plan, done backwards: each plane is as if the other job were not
+ * there. At one place of one plane they clash. */
 static void planes_apart(void) {
     for (uint16_t k = 0; k < 9; k++) {
         tower_row jobs[2];
@@ -110,11 +116,14 @@ static void planes_apart(void) {
         jobs[0][TOWER_PLANE] = k % 3;
         jobs[1][TOWER_PLANE] = k / 3;
         jobs[1][LATCH_BASE] = 50;
-        uint16_t answers[2] = {9, 9};
+        uint16_t answers[2] = {99, 99};
         bool kept = false;
         struct run run = {SIDE, SIDE, NOWHERE, jobs[0], backwards, 2 * TOWER_ROW_WORDS, 2, 2};
         uint32_t got = tower_kept(&run, answers, &kept), due = k % 3 == k / 3 ? LATCH_PAIR_TURNED : LATCH_DONE;
         check(got == due && kept, "one place of planes %d and %d: %u, not %u, kept %d", k % 3, k / 3, got, due, kept);
+        if (due == LATCH_DONE)
+            check(answers[0] == LATCH_DONE && answers[1] == LATCH_DONE, "one place of planes %d and %d: answers %u, %u", k % 3, k / 3,
+                  answers[0], answers[1]);
     }
 }
 

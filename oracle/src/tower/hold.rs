@@ -43,7 +43,7 @@ impl Comparison {
         let words = || Guarded::new(|i| 0xA5C3 ^ (i as u16).wrapping_mul(0x9E37));
         Comparison {
             seed,
-            number: 10 << 40,
+            number: 11 << 40,
             about: "",
             marks: Marks::default(),
             runner: Runner::new(),

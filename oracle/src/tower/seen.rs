@@ -13,7 +13,7 @@ pub struct Seen {
     pub across: [u64; 2],
     /// Windows whose largest sum is 2147483646, 2147483647 and 2147483648.
     pub limit: [u64; 3],
-    /// Plans that were drawn.
+    /// Plans whose jobs were also done one by one.
     pub plans: u64,
     /// Done jobs of modes 0 to 4 by mode and plane.
     plain: Vec<u64>,
