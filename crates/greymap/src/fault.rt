@@ -14,4 +14,6 @@ pub enum Fault {
     TooBright(usize),
     Short(usize),
     TooMuch,
+    OtherSize,
+    Two,
 }

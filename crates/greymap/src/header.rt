@@ -13,18 +13,35 @@ pub enum Entry {
     NoNumber,
 }
 
-// Whether the text begins with the word P2.
-pub fn is_plain(s: &[u8]) -> bool {
+// The place after the word P2, where it stands at a place.
+pub enum Start {
+    Past(usize),
+    Missing,
+}
+
+// Whether three bytes are the word P2 with its end.
+fn is_plain(p: u8, two: u8, end: u8) -> bool {
+    if p != b'P' {
+        return false;
+    }
+    if two != b'2' {
+        return false;
+    }
+    word::is_end(end)
+}
+
+// The word P2 at a place.
+pub fn past_word(s: &[u8], at: usize) -> Start {
     if s.len() < 3 {
-        return false;
+        return Start::Missing;
     }
-    if s[0] != b'P' {
-        return false;
+    if s.len() - 3 < at {
+        return Start::Missing;
     }
-    if s[1] != b'2' {
-        return false;
+    if is_plain(s[at], s[at + 1], s[at + 2]) {
+        return Start::Past(at + 2);
     }
-    word::is_end(s[2])
+    Start::Missing
 }
 
 // The blocks along a side of so many samples.

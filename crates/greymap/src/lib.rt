@@ -2,9 +2,11 @@
 // that is not whole blocks is refused, not padded.
 pub mod fault;
 mod header;
+pub mod still;
 
 use fault::Fault;
 use header::Entry;
+use header::Start;
 use series::checked;
 use text::word;
 use text::word::Found;
@@ -17,13 +19,16 @@ pub struct Greymap {
     pub d: u16,
 }
 
+// A greymap and the place after it, or what is wrong with it.
 pub enum FoundMap {
-    Is(Greymap),
+    Is(Greymap, usize),
     Not(Fault),
 }
 
 impl Greymap {
-    pub fn width(self) -> usize {
+    pub fn width(self) -> usize
+        ensures { λ r. ⌜ r ≤ 2040 ⌝ }
+    {
         8 * self.across as usize
     }
 
@@ -58,7 +63,7 @@ fn wrong(entry: Entry, not_taken: Fault) -> FoundMap {
     }
 }
 
-// The samples at a place, and nothing after them.
+// The samples at a place.
 fn samples(s: &[u8], at: usize, g: Greymap, most: u16, plane: &mut [f32]) -> FoundMap {
     let from = 0;
     let n = g.area();
@@ -68,24 +73,19 @@ fn samples(s: &[u8], at: usize, g: Greymap, most: u16, plane: &mut [f32]) -> Fou
     let read = checked::samples(s, word::past_comments(s, at), most, &mut plane[from..n]);
     let found = read.found;
     match found {
-        Found::Number => {
-            if word::past_blanks(s, read.next) < s.len() {
-                return FoundMap::Not(Fault::TooMuch);
-            }
-            FoundMap::Is(g)
-        }
+        Found::Number => FoundMap::Is(g, read.next),
         Found::NoNumber => FoundMap::Not(Fault::NoSample(read.last)),
         Found::TooLarge => FoundMap::Not(Fault::TooBright(read.last)),
         Found::Nothing => FoundMap::Not(Fault::Short(read.last)),
     }
 }
 
-// The greymap that a text is, its samples in the plane's first places; or what is wrong with it.
-pub fn read(s: &[u8], plane: &mut [f32]) -> FoundMap {
-    if !header::is_plain(s) {
+// The greymap at a place, its samples in the plane's first places; or what is wrong with it.
+pub fn read(s: &[u8], at: usize, plane: &mut [f32]) -> FoundMap {
+    let Start::Past(past_start) = header::past_word(s, at) else {
         return FoundMap::Not(Fault::NoGreymap);
-    }
-    let width = header::side(s, 2);
+    };
+    let width = header::side(s, past_start);
     let Entry::Is(across, past_width) = width else {
         return wrong(width, Fault::BadWidth);
     };

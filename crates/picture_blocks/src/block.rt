@@ -30,3 +30,16 @@ pub fn block_of(original: &[f32], width: u16, x: u16, y: u16) -> [u16; 64] {
     }
     block
 }
+
+fn float_at(plane: &[f32], at: usize) -> f32 {
+    if at < plane.len() { plane[at] } else { 0.0 }
+}
+
+// The same block as a plane has it, sample by sample.
+pub fn samples_of(plane: &[f32], width: u16, x: u16, y: u16) -> [f32; 64] {
+    let mut block = [0.0f32; 64];
+    for i in 0..64u8 {
+        block[i as usize] = float_at(plane, place(width, x, y, i));
+    }
+    block
+}

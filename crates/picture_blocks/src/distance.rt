@@ -2,7 +2,7 @@
 use crate::block;
 ghost use Prim.Native.Nat.{_≤_};
 
-fn distance(a: u16, b: u16) -> u16 {
+pub fn distance(a: u16, b: u16) -> u16 {
     if a < b { b - a } else { a - b }
 }
 

@@ -1,5 +1,5 @@
 // A picture rebuilt from nothing by one run of its plan in an order, and held against the original.
-mod count;
+pub mod count;
 mod room;
 
 use greymap::Greymap;

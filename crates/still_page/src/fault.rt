@@ -24,6 +24,8 @@ fn tell_text(fault: Fault) {
         Fault::TooLong => say(b"65536 bytes or more, too long"),
         Fault::NoGreymap => say(b"no plain greymap, it does not begin with P2"),
         Fault::NoRoom => say(b"too many samples for the room there is"),
+        Fault::OtherSize => say(b"its sides and its largest value are not those of the first"),
+        Fault::Two => say(b"no third follows, a still has one greymap or three"),
         _ => say(b"more follows after its last sample"),
     }
 }
@@ -49,9 +51,13 @@ fn tell_sample(fault: Fault) {
     }
 }
 
-pub fn tell(name: &[u8], fault: Fault) {
+// A fault of a still's greymap, by its number from 1 on; the number is told of a further one.
+pub fn tell(name: &[u8], number: u8, fault: Fault) {
     say(name);
     say(b": ");
+    if 1 < number {
+        counted(b"greymap ", number as usize, b": ");
+    }
     tell_sample(fault);
     say(b"\n");
 }

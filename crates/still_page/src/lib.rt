@@ -4,7 +4,7 @@ pub mod fault;
 mod heading;
 mod legend;
 pub mod map;
-mod print;
+pub mod print;
 pub mod rebuilding;
 mod table;
 

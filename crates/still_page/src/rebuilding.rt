@@ -8,14 +8,14 @@ pub fn print_heading() {
 }
 
 // How many of how many, each with the blanks of its column.
-fn print_part(n: usize, blanks: &[u8], all: usize, all_blanks: &[u8]) {
+pub fn print_part(n: usize, blanks: &[u8], all: usize, all_blanks: &[u8]) {
     print::right(n as u64, blanks);
     print::say(b" of ");
     print::right(all as u64, all_blanks);
 }
 
 // A refusal of the whole run, if it is one.
-fn print_refusal(answer: u32) {
+pub fn print_refusal(answer: u32) {
     if answer != Answer::Done.number() {
         print::say(b"  refused with ");
         print::number(answer as usize);
