@@ -10,6 +10,8 @@
  *
  * B is the block size: 4, 8, 16, 32 or 64. D is the bit depth: 8, 10 or 12. M = 2^D - 1.
  * In latch_write_plan and latch_read_plan a block is 512 bytes of a plan's file.
+ *
+ * latchtower.h declares a second library, for a tower with colour: plans over one luma and two chroma planes.
  */
 #ifndef LATCHORCHARD_H
 #define LATCHORCHARD_H
