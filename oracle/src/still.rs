@@ -72,8 +72,9 @@ fn of_the_rust(p: &Picture) -> Page {
     Page { table, map }
 }
 
-/// A stored page: the table stands in its second part, the map in its last.
+/// A stored page of a greymap: the table stands in its second part, the map in its last. The page of a colour still may follow it.
 fn stored(text: &str) -> Page {
+    let text = text.split("\n\nColour still").next().unwrap();
     let parts: Vec<Vec<&str>> = text.split("\n\n").map(|part| part.lines().map(str::trim).collect()).collect();
     let table = parts[1].iter().skip(1).map(|line| {
         let words: Vec<&str> = line.split_ascii_whitespace().collect();
