@@ -10,9 +10,11 @@ use Rattle.planes.specs.Three.{Sized}
 use Rattle.tower_work.proofs.Frame.{tower-fits}
 use Rattle.tower_plan.proofs.Steps.{none-done, all-done, one-more}
 use Rattle.tower_plan.proofs.rows.run_rows.Proof.Loop.{Inv-loop, μ-loop, sized, still-planes, t, entry, row-in, slot-in, low, row-is}
+use Rattle.tower_plan.proofs.rows.run_rows.Proof.Lengths.{same-length, same-length-2, same-length-3, same-length-4, same-length-5, same-length-6, same-length-7, same-length-8}
 use Rattle.tower_plan.proofs.rows.run_rows.Statement.{statement}
 use Rattle.tower_plan.proofs.rows.run_rows.Tie as tie
 mod Loop
+mod Lengths
 
 loop-holds : tie.Need-loop-holds Inv-loop μ-loop
 loop-holds c =
@@ -94,30 +96,6 @@ loop-again c =
       search needs,
       search needs,
     )
-
-same-length : tie.Need-same-length Inv-loop μ-loop
-same-length c = let s = c .before .before .before .before .before .before .before .before .before in c .before .loop .inv .1 .l0 ∙ sym (sized _ _ _ _ _ (s .pre .0 .are-planes) .l0)
-
-same-length-2 : tie.Need-same-length-2 Inv-loop μ-loop
-same-length-2 c = let s = c .before .before .before .before .before .before .before .before .before in c .before .loop .inv .1 .l1 ∙ sym (sized _ _ _ _ _ (s .pre .0 .are-planes) .l1)
-
-same-length-3 : tie.Need-same-length-3 Inv-loop μ-loop
-same-length-3 c = let s = c .before .before .before .before .before .before .before .before .before in c .before .loop .inv .1 .l2 ∙ sym (sized _ _ _ _ _ (s .pre .0 .are-planes) .l2)
-
-same-length-4 : tie.Need-same-length-4 Inv-loop μ-loop
-same-length-4 c = c .before .loop .inv .2
-
-same-length-5 : tie.Need-same-length-5 Inv-loop μ-loop
-same-length-5 c = let s = c .before .before .before .before .before .before .before .before .before in c .before .loop .inv .4 ∙ sym (s .pre .1 .0)
-
-same-length-6 : tie.Need-same-length-6 Inv-loop μ-loop
-same-length-6 c = let s = c .before .before .before .before .before .before .before .before .before in c .before .loop .inv .5 ∙ sym (s .pre .1 .1)
-
-same-length-7 : tie.Need-same-length-7 Inv-loop μ-loop
-same-length-7 c = let s = c .before .before .before .before .before .before .before .before .before in c .before .loop .inv .6 ∙ sym (s .pre .1 .2)
-
-same-length-8 : tie.Need-same-length-8 Inv-loop μ-loop
-same-length-8 c = let s = c .before .before .before .before .before .before .before .before .before in c .before .loop .inv .7 ∙ sym (s .pre .1 .3)
 
 returns : tie.Need-returns Inv-loop μ-loop
 returns c =
