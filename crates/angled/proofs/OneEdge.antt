@@ -18,7 +18,7 @@ use Rattle.setting.proofs.Table.{step-low}
 use Rattle.zone_spec.specs.Zones.{zone1, zone3}
 use Rattle.zone_rows.specs.Listed.{ahead, Fours}
 use Rattle.zone_spec.proofs.Blocks.{zone1-block, zone3-block}
-use Rattle.taps.proofs.Samples.{m-is, in-sample, edge-sample}
+use Rattle.angled.proofs.Samples.{m-is, in-sample, edge-sample}
 
 -- a is the angle that the step is of; the edge is filtered by the strength st below the limit lim
 pub record OneEdge (B a st lim : ℕ) (m k : ℤ) (es : List ℤ) : Type 0 where
@@ -32,7 +32,7 @@ pub record OneEdge (B a st lim : ℕ) (m k : ℤ) (es : List ℤ) : Type 0 where
 
 -- how many entries the list has
 abbrev pub size : ℕ → ℕ
-size B = B + B + B / 2 + 8
+size B = B + B + B / 2 + 7
 
 module _ {B a st lim : ℕ} {m k : ℤ} {es : List ℤ} (g : OneEdge B a st lim m k es) where
   abbrev e : ℕ → ℤ
@@ -47,7 +47,7 @@ module _ {B a st lim : ℕ} {m k : ℤ} {es : List ℤ} (g : OneEdge B a st lim 
   pub step-few : step a ≤ 96
   step-few = step-low a g.low g.high
 
-  pub reach : B * step a / 64 + B + 8 ≤ size B
+  pub reach : B * step a / 64 + B + 7 ≤ size B
   reach = omega (arith, g.fours.2, mul-le-mul_left B step-few)
 
   last : inside (pos (nat_abs m)) (e (B + B)) ≡ true
@@ -55,18 +55,18 @@ module _ {B a st lim : ℕ} {m k : ℤ} {es : List ℤ} (g : OneEdge B a st lim 
       filtered-inside (nat_abs m) (B + B) st lim k es (B + B) g.gentle g.entries g.corner (omega arith)
 
   module _ (zs xs : List ℤ) (q : xs ≡ filled (size B) (padded 4 (B + B) e) zs) where
-    pub holds-samples : Edge (nat_abs m) (size B) xs
-    holds-samples = ready-inside (nat_abs m) (B + B) st lim (size B) k es zs xs g.gentle g.entries g.corner q
+    pub holds-samples : Edge 4095 (size B) xs
+    holds-samples = ready-inside 4095 (B + B) st lim (size B) k es zs xs g.gentle samples corner-in q
 
     module _ (lum : Bool) (M : ℤ) (t : ℕ) (out : List Float) (x : M ≡ m) (p : t ≡ step a) where
       pub by_rows : block B B (ahead lum M t xs) out ≡ block B B (zone1 lum m (B + B) (step a) e) out
       by_rows =
           (λ j. block B B (ahead lum ((x ∙ m-is m g.depth) j) (p j) xs) out)
-          ∙ zone1-block (B + B) (size B) e xs (ready_at (B + B) st lim (size B) k es zs xs q) lum (nat_abs m) last B B (step a) out (omega (arith, reach))
+          ∙ zone1-block (B + B) (size B) e xs (ready_at (B + B) st lim (size B) k es zs xs q) lum (nat_abs m) last B B (step a) out reach
           ∙ (λ j. block B B (zone1 lum (sym (m-is m g.depth) j) (B + B) (step a) e) out)
 
-      pub by-columns : block B B (λ r c. ahead lum M t xs c r) out ≡ block B B (zone3 lum m (B + B) (step a) e) out
-      by-columns =
-          (λ j. block B B (λ r c. ahead lum ((x ∙ m-is m g.depth) j) (p j) xs c r) out)
-          ∙ zone3-block (B + B) (size B) e xs (ready_at (B + B) st lim (size B) k es zs xs q) lum (nat_abs m) last B B (step a) out (omega (arith, reach))
+      pub by-strips : (h : ℕ) → h ≡ B → block B h (λ r c. ahead lum M t xs c r) out ≡ block B B (zone3 lum m (B + B) (step a) e) out
+      by-strips h y =
+          (λ j. block B (y j) (λ r c. ahead lum ((x ∙ m-is m g.depth) j) (p j) xs c r) out)
+          ∙ zone3-block (B + B) (size B) e xs (ready_at (B + B) st lim (size B) k es zs xs q) lum (nat_abs m) last B B (step a) out reach
           ∙ (λ j. block B B (zone3 lum (sym (m-is m g.depth) j) (B + B) (step a) e) out)

@@ -21,14 +21,14 @@ use Rattle.zone_spec.proofs.Blocks.{zone2-block}
 use Rattle.angled.specs.AtAngle.{above_ready, left_ready, z2_from}
 
 module _ (B : ℕ) (s : Setting) (k : ℤ) where
-  -- each list holds samples in 0..v
-  pub above-samples : (v : ℕ) (above zs xs : List ℤ) → Edge v B above → inside (pos v) k ≡ true
-      → xs ≡ filled (B + 7) (padded 4 B (above_ready B B s B above k)) zs → Edge v (B + 7) xs
-  above-samples v above zs xs p q e = ready-inside v B (strength_above s (B + B)) (limit_above s B B) (B + 7) k above zs xs (above_most s (B + B)) p q e
+  -- each list holds samples
+  pub above-samples : (above zs xs : List ℤ) → Edge 4095 B above → inside (pos 4095) k ≡ true
+      → xs ≡ filled (B + 7) (padded 4 B (above_ready B B s B above k)) zs → Edge 4095 (B + 7) xs
+  above-samples above zs xs p q e = ready-inside 4095 B (strength_above s (B + B)) (limit_above s B B) (B + 7) k above zs xs (above_most s (B + B)) p q e
 
-  pub left-samples : (v : ℕ) (left zs xs : List ℤ) → Edge v B left → inside (pos v) k ≡ true
-      → xs ≡ filled (B + 7) (padded 4 B (left_ready B B s B left k)) zs → Edge v (B + 7) xs
-  left-samples v left zs xs p q e = ready-inside v B (strength_left s (B + B)) (limit_left s B B) (B + 7) k left zs xs (left-most s (B + B)) p q e
+  pub left-samples : (left zs xs : List ℤ) → Edge 4095 B left → inside (pos 4095) k ≡ true
+      → xs ≡ filled (B + 7) (padded 4 B (left_ready B B s B left k)) zs → Edge 4095 (B + 7) xs
+  left-samples left zs xs p q e = ready-inside 4095 B (strength_left s (B + B)) (limit_left s B B) (B + 7) k left zs xs (left-most s (B + B)) p q e
 
   pub by-strips : (m : ℤ) (above left zs ws xs ys : List ℤ) → 90 < s.angle → s.angle < 180
       → xs ≡ filled (B + 7) (padded 4 B (above_ready B B s B above k)) zs

@@ -24,7 +24,7 @@ fn z1_with(
     ensures { out.new ≡ block bs bs (z1_at bs bs m set above.now corner) out.old }
 {
     let n = bs + bs;
-    let size = n + bs / 2 + 8;
+    let size = n + bs / 2 + 7;
     ready::above_list(bs, set, n, size, above, corner, pad, list);
     let f = set.flags;
     let step = steps::step_of(set.angle);

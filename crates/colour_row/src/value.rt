@@ -4,7 +4,7 @@ ghost use Rattle.fixed_product.specs.Product.{mul_fixed, short_limit};
 ghost use Rattle.product_table.specs.Wide.{half_of};
 ghost use Rattle.colour_row.specs.Sample.{clip_to, clipped};
 ghost use Rattle.colour_row.specs.Mixed.{MixReady, Short, Luma, mixed};
-ghost use Rattle.colour_row.specs.Wides.{Wides};
+ghost use Rattle.colour_row.specs.Wides.{Both};
 
 use crate::mix::Mix;
 
@@ -49,7 +49,7 @@ pub fn short_sample(n: i32, c: i32, k: Mix) -> i32
 
 // A sample of any block, whose parameters' tables are t0 and t1.
 pub fn wide_sample(n: i32, c: i32, k: Mix, t0: &[i64], t1: &[i64]) -> i32
-    requires { MixReady k × Wides k t0.now t1.now × Luma k n × Luma k c }
+    requires { MixReady k × Both k t0.now t1.now × Luma k n × Luma k c }
     ensures { result ≡ mixed k n c }
 {
     let e = colour_terms::eighth(n);

@@ -1,5 +1,5 @@
 -- The area of luma that a block needs: its own, with the row above or the column before where the direction takes them and they are there.
-use Rattle.std.specs.Prelude.{ℕ, ◌+◌, ◌-◌, ◌*◌, ◌^◌, ◌≤◌, ◌<◌, ◌≡◌, cond, ℤ, pos}
+use Rattle.std.specs.Prelude.{ℕ, ◌+◌, ◌*◌, ◌≤◌, ◌<◌, cond}
 use Rattle.numbers.specs.Colour.{the_colour, rows_up, columns_left}
 use Rattle.colour_terms.specs.Terms.{stride}
 use Rattle.colour_rules.specs.Rules.{largest_side}
@@ -16,9 +16,3 @@ pub record Area (s width height n : ℕ) : Type 0 where
   pub lies : (j : ℕ) → j < height → s + j * stride + width ≤ n
   pub starts : s ≤ stride * stride
   pub high : height ≤ largest_side + 1
-
--- nothing but ones for binary digits
-pub record Ones (m : ℤ) : Type 0 where
-  pub digits : ℕ
-  pub few : digits ≤ 31
-  pub is : m ≡ pos (2 ^ digits - 1)

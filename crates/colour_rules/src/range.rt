@@ -6,7 +6,7 @@ ghost use Rattle.numbers.specs.Colour.{is_colour};
 ghost use Rattle.signed.specs.Range.{inside};
 ghost use Rattle.edge_line.specs.Every.{every};
 ghost use Rattle.colour_terms.specs.Terms.{stride, entry};
-ghost use Rattle.colour_rules.specs.Area.{up_of, beside_of, Area, Ones};
+ghost use Rattle.colour_rules.specs.Area.{up_of, beside_of, Area};
 ghost use Rattle.colour_rules.specs.Placed.{InReference};
 ghost use Rattle.colour_rules.specs.Rules.{is_luma_in_range};
 
@@ -14,23 +14,24 @@ use crate::block::Block;
 use colour_terms::reference::Reference;
 use direct_calls::range;
 
-// Whether the first n entries are in 0..m, a number with nothing but ones for binary digits: they are exactly when the digits that any of them has are.
+// Whether the first n entries are in 0..m.
 fn run_in_range(xs: &[i32], n: usize, m: i32) -> bool
-    requires { (n ≤ length xs.now) × Ones m }
+    requires { n ≤ length xs.now }
     ensures { result ≡ every (λ i. inside m (get_or xs.now i (pos 0))) n }
 {
-    let mut seen = 0;
+    let mut ok = true;
     let mut i = 0;
     while i < n {
-        seen = seen | xs[i];
+        let here = range::in_range(xs[i], m);
+        ok = ok & here;
         i += 1;
     }
-    range::in_range(seen, m)
+    ok
 }
 
-// The same of each entry of an area: rows of `width` entries, the first from s on.
+// Whether each entry of an area is in 0..m: rows of `width` entries, the first from s on.
 fn area_in_range(luma: &[i32], s: usize, width: usize, height: usize, m: i32) -> bool
-    requires { Area s width height (length luma.now) × Ones m }
+    requires { Area s width height (length luma.now) }
     ensures { result ≡ every (λ j. every (λ i. inside m (get_or luma.now (s + j * stride + i) (pos 0))) width) height }
 {
     let mut ok = true;

@@ -45,13 +45,9 @@ module _ (k : ℕ) (h : k ≤ 31) where
   in_is : (z : ℤ) → SFits w32 z → ltb (of_z w32 z) (2 ^ k) ≡ In z
   in_is z f = sym (inside-digits k (of_z w32 z) h) ∙ ap In (back w32 f)
 
-  -- those so far with those of one number more
-  pub more-joined : (n : ℕ) (b : ℤ) → SFits w32 b → In (to_z w32 (bit_or n (of_z w32 b))) ≡ (In (to_z w32 n) && In b)
-  more-joined n b f =
-      inside-digits k (bit_or n (of_z w32 b)) h ∙ or-below k n (of_z w32 b) ∙ (λ j. sym (inside-digits k n h) j && in_is b f j)
-
   pub two-joined : (a b : ℤ) → SFits w32 a → SFits w32 b → In (to_z w32 (bit_or (of_z w32 a) (of_z w32 b))) ≡ (In a && In b)
-  two-joined a b fa fb = more-joined (of_z w32 a) b fb ∙ ap (λ z. In z && In b) (back w32 fa)
+  two-joined a b fa fb =
+      inside-digits k (bit_or (of_z w32 a) (of_z w32 b)) h ∙ or-below k (of_z w32 a) (of_z w32 b) ∙ (λ j. in_is a fa j && in_is b fb j)
 
   pub three-joined : (a b c : ℤ) → SFits w32 a → SFits w32 b → SFits w32 c
       → In (to_z w32 (bit_or (bit_or (of_z w32 a) (of_z w32 b)) (of_z w32 c))) ≡ ((In a && In b) && In c)

@@ -25,14 +25,12 @@ pub fn eighth(v: i32) -> i32
     v >> 3
 }
 
-// "(c x c + 2^(D-1)) >> D", `non_linear` of mhccp.rs, of a c in 0..4095; bits is D, and mid 2^(D-1). c is told as what it is, a number of twelve binary
-// digits, whose square the processor has at less cost.
+// "(c x c + 2^(D-1)) >> D", `non_linear` of mhccp.rs, of a c in 0..4095; bits is D, and mid 2^(D-1).
 pub fn squared(c: i32, mid: i32, bits: u32) -> i32
     requires { (inside (pos 4095) c ≡ true) × (mid ≡ pos (middle bits)) × (bits ≤ 12) }
     ensures { result ≡ squared bits c }
 {
-    let low = c & 4095;
-    (low * low + mid) >> bits
+    (c * c + mid) >> bits
 }
 
 // 2^(D-1), the middle of a depth's range.

@@ -1,7 +1,4 @@
 // Rows of samples between the entries of an edge (document 01, Directions).
 pub mod between;
 mod chroma;
-pub mod line;
 mod luma;
-mod pairs;
-mod rows;

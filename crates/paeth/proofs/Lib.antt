@@ -1,3 +1,2 @@
--- Laws of Paeth, and of its rows.
+-- Laws of Paeth.
 pub mod Laws
-pub mod Row

@@ -1,62 +1,45 @@
--- Laws of the choice: it is one of the three, and what it is worked out from fits in 16 bits. Assumes nothing.
-use mathlib.Core.Bool.{Bool, true, false, cond, ◌&&◌, true≢false}
-use mathlib.Core.Path.{◌≡◌, refl, sym}
-use mathlib.Core.Logic.{⊎_elim}
+-- Laws of the choice: it is one of the three, and the code's sum from the corner. Assumes nothing.
+use mathlib.Core.Bool.{Bool, true, false, cond, ◌&&◌}
+use mathlib.Core.Path.{◌≡◌}
 use Prim.Native.Nat.{ℕ, ◌≤◌}
 use native.Mathlib.Omega.{arith}
 use lib.Dec.{leb}
-use lib.IntN.{ℤ, pos, negsuc, nat_abs, ◌+ℤ◌, ◌-ℤ◌}
-use mir.Syntax.{w16}
-use mir.Val.{SFits}
-use Rattle.signed.specs.Range.{inside}
-use Rattle.signed.proofs.Parts.{up, dn, same, add, sub, abs, one}
-use Rattle.signed.proofs.Bound.{abs-add, sfits-abs}
-use Rattle.signed.proofs.Range.{inside-abs}
-use Rattle.paeth_rows.specs.Chosen.{nearer, chosen, From}
+use lib.IntN.{ℤ, pos, nat_abs, ◌+ℤ◌, ◌-ℤ◌}
+use Rattle.signed.proofs.Parts.{same, add, sub}
+use Rattle.paeth_rows.specs.Chosen.{by, chosen}
 
--- ---- sums from the corner
-pub back : (k z : ℤ) → k +ℤ (z -ℤ k) ≡ z
-back k z = same _ _ (omega (arith, add k (z -ℤ k), sub z k))
-
-pub here : (k : ℤ) → k +ℤ pos 0 ≡ k
-here k = same _ _ (omega (arith, add k (pos 0)))
-
--- ---- 16 bits: differences of numbers in 0..4095, and sums of two of them
-in_parts : (z : ℤ) → inside (pos 4095) z ≡ true → (up z ≤ 4095) × (dn z ≡ 0)
-unfolding inside
-in_parts (pos n) e = (inside-abs 4095 (pos n) e, refl)
-in_parts (negsuc n) e = absurd (true≢false (sym e))
-
-module _ (k x : ℤ) (p : inside (pos 4095) k ≡ true) (q : inside (pos 4095) (k +ℤ x) ≡ true) where
-  pub near : nat_abs x ≤ 4095
-  near =
-      ⊎_elim
-      (λ h. omega (arith, add k x, abs x, in_parts k p, in_parts (k +ℤ x) q))
-      (λ h. omega (arith, add k x, abs x, in_parts k p, in_parts (k +ℤ x) q))
-      (one x)
-
-pub apart : (k z : ℤ) → inside (pos 4095) k ≡ true → inside (pos 4095) z ≡ true → nat_abs (z -ℤ k) ≤ 4095
-apart k z p q = near k (z -ℤ k) p (rw (back k z) q)
-
-pub small-fits : (z : ℤ) → nat_abs z ≤ 8190 → SFits w16 z
-small-fits z h = sfits-abs w16 z (omega arith)
-
-pub sum-small : (x y : ℤ) → nat_abs x ≤ 4095 → nat_abs y ≤ 4095 → nat_abs (x +ℤ y) ≤ 8190
-sum-small x y p q = omega (arith, abs-add x y)
-
-pub inside-fits : (z : ℤ) → inside (pos 4095) z ≡ true → SFits w16 z
-inside-fits z e = small-fits z (omega (arith, inside-abs 4095 z e))
-
--- ---- the choice
-pub both : {A : Type 0} (p q : Bool) (a b : A) → cond p (cond q a b) b ≡ cond (p && q) a b
-both true q a b = refl
-both false q a b = refl
-
-pub chosen-inside : (x y k : ℤ) → From k y → inside (pos 4095) (k +ℤ x) ≡ true → inside (pos 4095) (chosen x y k) ≡ true
-unfolding nearer
-chosen-inside x y k (r, p) q = go (leb (nat_abs x) (nat_abs y) && leb (nat_abs x) (nat_abs (x +ℤ y))) (leb (nat_abs y) (nat_abs (x +ℤ y)))
+-- what holds of the three holds of the one that is chosen
+pub one_of : (P : ℤ → Type 0) (l t k : ℤ) → P l → P t → P k → P (chosen l t k)
+unfolding chosen
+one_of P l t k pl pt pk = go (nat_abs (t -ℤ k)) (nat_abs (l -ℤ k)) (nat_abs (t -ℤ k +ℤ (l -ℤ k)))
   where
-    go : (s t : Bool) → inside (pos 4095) (k +ℤ cond s y (cond t x (pos 0))) ≡ true
-    go true t = p
-    go false true = q
-    go false false = rw (here k) r
+    either : (s : Bool) (x y : ℤ) → P x → P y → P (cond s x y)
+    either true x y p q = p
+    either false x y p q = q
+
+    go : (p q r : ℕ) → P (by p q r l t k)
+    go p q r = either (leb p q && leb p r) l _ pl (either (leb q r) t k pt pk)
+
+pub chosen-small : (n : ℕ) (l t k : ℤ) → nat_abs l ≤ n → nat_abs t ≤ n → nat_abs k ≤ n → nat_abs (chosen l t k) ≤ n
+chosen-small n l t k p q r = one_of (λ z. nat_abs z ≤ n) l t k p q r
+
+-- z - 0 is z
+pub less_none : (z : ℤ) → z -ℤ pos 0 ≡ z
+less_none z = same _ _ (omega (arith, sub z (pos 0)))
+
+-- a choice by how far l, t and k lie from k
+pub from-corner : (p q r : Bool) (l t k : ℤ) → k +ℤ cond p (cond q (l -ℤ k) (cond r (t -ℤ k) (pos 0))) (cond r (t -ℤ k) (pos 0)) ≡ cond (p && q) l (cond r t k)
+from-corner p q r l t k = go p q r
+  where
+    back : (z : ℤ) → k +ℤ (z -ℤ k) ≡ z
+    back z = same _ _ (omega (arith, add k (z -ℤ k), sub z k))
+
+    here : k +ℤ pos 0 ≡ k
+    here = same _ _ (omega (arith, add k (pos 0)))
+
+    go : (p q r : Bool) → k +ℤ cond p (cond q (l -ℤ k) (cond r (t -ℤ k) (pos 0))) (cond r (t -ℤ k) (pos 0)) ≡ cond (p && q) l (cond r t k)
+    go true true r = back l
+    go true false true = back t
+    go true false false = here
+    go false q true = back t
+    go false q false = here

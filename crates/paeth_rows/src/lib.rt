@@ -1,4 +1,3 @@
 // The rows of Paeth (document 01, The predictors).
-pub mod offsets;
 pub mod row;
 mod value;

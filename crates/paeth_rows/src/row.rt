@@ -1,69 +1,45 @@
-// Rows of samples, from a list of how far the entries above lie from the corner.
-ghost use Rattle.std.specs.Prelude.{◌≡◌, ◌≤◌, ◌*◌, pos, length, get_or};
+// Rows of samples. A row of four has its own way, without a loop: the compiler makes no vector loop of so short a one.
+ghost use Rattle.std.specs.Prelude.{◌≡◌, ◌≤◌, pos, nat_abs, length, get_or};
+ghost use Rattle.signed.specs.Range.{Edge};
 ghost use Rattle.lists.specs.Fill.{tab};
 ghost use Rattle.lists.specs.Block.{sample};
-ghost use Rattle.paeth_rows.specs.Chosen.{chosen, From, Offsets};
+ghost use Rattle.paeth_rows.specs.Chosen.{chosen};
 
 use crate::value;
 
-// A row of four has its own way, without a loop: the compiler makes no vector loop of so short a one.
-pub fn quad_row(xs: &[i16], y: i16, corner: i16, row: &mut [f32])
-    requires { (length row.old ≡ 4) × (4 ≤ length xs.now) × Offsets 4 corner xs.now × From corner y }
-    ensures { row.new ≡ tab (length row.old) (λ c. sample (chosen (get_or xs.now c (pos 0)) y corner)) }
+fn quad_row(above: &[i32], l: i32, corner: i32, row: &mut [f32])
+    requires { (length row.old ≡ 4) × (4 ≤ length above.now) × Edge 4095 4 above.now × (nat_abs l ≤ 4095) × (nat_abs corner ≤ 4095) }
+    ensures { row.new ≡ tab (length row.old) (λ c. sample (chosen l (get_or above.now c (pos 0)) corner)) }
 {
-    let a = value::paeth_sample(xs[0], y, corner);
-    let b = value::paeth_sample(xs[1], y, corner);
-    let c = value::paeth_sample(xs[2], y, corner);
-    let d = value::paeth_sample(xs[3], y, corner);
-    row[0] = a;
-    row[1] = b;
-    row[2] = c;
-    row[3] = d;
+    let x = value::paeth_sample(l, above[0], corner);
+    let y = value::paeth_sample(l, above[1], corner);
+    let z = value::paeth_sample(l, above[2], corner);
+    let u = value::paeth_sample(l, above[3], corner);
+    row[0] = x;
+    row[1] = y;
+    row[2] = z;
+    row[3] = u;
 }
 
-// Columns in lanes of 16 bits.
-fn lanes(xs: &[i16], y: i16, corner: i16, part: &mut [i16])
-    requires { (length part.old ≤ length xs.now) × Offsets (length part.old) corner xs.now × From corner y }
-    ensures { part.new ≡ tab (length part.old) (λ c. chosen (get_or xs.now c (pos 0)) y corner) }
+fn long_row(above: &[i32], l: i32, corner: i32, row: &mut [f32])
+    requires { (length row.old ≤ length above.now) × Edge 4095 (length row.old) above.now × (nat_abs l ≤ 4095) × (nat_abs corner ≤ 4095) }
+    ensures { row.new ≡ tab (length row.old) (λ c. sample (chosen l (get_or above.now c (pos 0)) corner)) }
 {
     let mut c = 0;
-    while c < part.len() {
-        part[c] = value::paeth_single(xs[c], y, corner);
+    while c < row.len() {
+        row[c] = value::paeth_sample(l, above[c], corner);
         c += 1;
     }
 }
 
-// The samples of a part.
-fn part_row(xs: &[i16], y: i16, corner: i16, part: &mut [i16], row: &mut [f32])
-    requires { (length row.old ≡ length part.old) × (length part.old ≤ length xs.now) × Offsets (length part.old) corner xs.now × From corner y }
-    ensures { row.new ≡ tab (length row.old) (λ c. sample (chosen (get_or xs.now c (pos 0)) y corner)) }
+// A row of any length.
+pub fn paeth_row(above: &[i32], l: i32, corner: i32, row: &mut [f32])
+    requires { (length row.old ≤ length above.now) × Edge 4095 (length row.old) above.now × (nat_abs l ≤ 4095) × (nat_abs corner ≤ 4095) }
+    ensures { row.new ≡ tab (length row.old) (λ c. sample (chosen l (get_or above.now c (pos 0)) corner)) }
 {
-    lanes(xs, y, corner, part);
-    sample_rows::to_samples(part, row);
-}
-
-// The same for sixteen columns or fewer.
-fn short_row(xs: &[i16], y: i16, corner: i16, row: &mut [f32])
-    requires { (length row.old ≤ 16) × (length row.old ≤ length xs.now) × Offsets (length row.old) corner xs.now × From corner y }
-    ensures { row.new ≡ tab (length row.old) (λ c. sample (chosen (get_or xs.now c (pos 0)) y corner)) }
-{
-    let mut part = [0i16; 16];
-    let start = 0;
-    let end = row.len();
-    part_row(xs, y, corner, &mut part[start..end], row);
-}
-
-// Any other row, in parts of n columns: where the compiler knows n, none is left to be worked out alone.
-pub fn long_row(n: usize, parts: usize, xs: &[i16], y: i16, corner: i16, row: &mut [f32])
-    requires { (n ≤ 16) × (length row.old ≡ parts * n) × (length row.old ≤ length xs.now) × Offsets (length row.old) corner xs.now × From corner y }
-    ensures { row.new ≡ tab (length row.old) (λ c. sample (chosen (get_or xs.now c (pos 0)) y corner)) }
-{
-    let mut c = 0;
-    let mut j = 0;
-    while j < parts {
-        let e = c + n;
-        short_row(&xs[c..e], y, corner, &mut row[c..e]);
-        c = e;
-        j += 1;
+    if row.len() == 4 {
+        quad_row(above, l, corner, row);
+    } else {
+        long_row(above, l, corner, row);
     }
 }

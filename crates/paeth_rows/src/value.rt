@@ -1,41 +1,35 @@
-// One sample, in 16 bits. With x = top - corner and y = left - corner, b = left + top - corner lies |x| from left, |y| from top and |x + y| from corner.
-ghost use Rattle.std.specs.Prelude.{◌≡◌, true, cond, ◌≤◌, pos, nat_abs, neg_ℤ, ◌+ℤ◌};
-ghost use Rattle.signed.specs.Range.{inside};
+// One sample. With x = top - corner and y = left - corner, b = left + top - corner lies |x| from left, |y| from top and |x + y| from corner.
+ghost use Rattle.std.specs.Prelude.{◌≡◌, ◌+◌, ◌^◌, ◌≤◌, ◌<◌, pos, nat_abs, neg_ℤ, ◌-ℤ◌};
 ghost use Rattle.lists.specs.Block.{sample};
-ghost use Rattle.paeth_rows.specs.Chosen.{chosen, From};
+ghost use Rattle.paeth_rows.specs.Chosen.{chosen};
 
-// How near x is to 0: minus its distance, so that the compiler compares numbers with a sign, as the processor does.
-fn nearness(x: i16) -> i16
-    requires { nat_abs x ≤ 8190 }
-    ensures { result ≡ neg_ℤ (pos (nat_abs x)) }
+// How near a is to b: minus their distance, so that the compiler compares numbers with a sign, as the processor does.
+fn nearness(a: i32, b: i32) -> i32
+    requires { nat_abs a + nat_abs b < 2 ^ 31 }
+    ensures { result ≡ neg_ℤ (pos (nat_abs (a -ℤ b))) }
 {
-    if x > 0 { -x } else { x }
+    if a > b { b - a } else { a - b }
 }
 
-// The first or the second, without a branch.
-fn select(first: bool, a: i16, b: i16) -> i16
-    ensures { result ≡ cond first a b }
+// The nearest of left, top and corner to left + top - corner, chosen by how far it lies from corner.
+fn paeth_single(left: i32, top: i32, corner: i32) -> i32
+    requires { (nat_abs left ≤ 4095) × (nat_abs top ≤ 4095) × (nat_abs corner ≤ 4095) }
+    ensures { result ≡ chosen left top corner }
 {
-    if first { a } else { b }
-}
-
-// The nearest of left, top and corner to b, chosen by how far it lies from corner.
-pub(crate) fn paeth_single(x: i16, y: i16, corner: i16) -> i16
-    requires { From corner y × (inside (pos 4095) (corner +ℤ x) ≡ true) }
-    ensures { result ≡ chosen x y corner }
-{
-    let to_left = nearness(x);
-    let to_top = nearness(y);
-    let to_corner = nearness(x + y);
-    let other = select(to_top >= to_corner, x, 0);
-    let nearest = select(to_left >= to_corner, y, other);
-    corner + select(to_left >= to_top, nearest, other)
+    let to_left = nearness(top, corner);
+    let to_top = nearness(left, corner);
+    let x = top - corner;
+    let y = left - corner;
+    let to_corner = nearness(x + y, 0);
+    let other = minmax::select(to_top >= to_corner, x, 0);
+    let nearest = minmax::select(to_left >= to_corner, y, other);
+    corner + minmax::select(to_left >= to_top, nearest, other)
 }
 
 // The same as a sample.
-pub(crate) fn paeth_sample(x: i16, y: i16, corner: i16) -> f32
-    requires { From corner y × (inside (pos 4095) (corner +ℤ x) ≡ true) }
-    ensures { result ≡ sample (chosen x y corner) }
+pub(crate) fn paeth_sample(left: i32, top: i32, corner: i32) -> f32
+    requires { (nat_abs left ≤ 4095) × (nat_abs top ≤ 4095) × (nat_abs corner ≤ 4095) }
+    ensures { result ≡ sample (chosen left top corner) }
 {
-    paeth_single(x, y, corner) as u16 as f32
+    paeth_single(left, top, corner) as f32
 }

@@ -1,3 +1,2 @@
 -- What a block function hands to its rows.
 pub mod Ready
-pub mod Fine

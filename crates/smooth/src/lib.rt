@@ -1,6 +1,5 @@
 // smooth, smooth_v and smooth_h (document 01, The predictors). The public calls take any input, and test the refusals 1, 2, 9, 8 in that order.
 pub mod block;
-mod lanes;
 
 ghost use Rattle.direct_calls.specs.Direct.{Predicted};
 ghost use Rattle.smooth_spec.specs.Smooth.{smooth_v_at, smooth_h_at, smooth_at};

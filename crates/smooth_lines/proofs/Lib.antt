@@ -1,1 +1,2 @@
--- The proofs of the rows' functions alone.
+-- Laws of the running numerator.
+pub mod Running

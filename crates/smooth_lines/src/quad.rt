@@ -2,7 +2,7 @@
 ghost use Rattle.std.specs.Prelude.{◌≡◌, ◌-◌, ◌≤◌, ◌<◌, pos, nat_abs, length, get_or};
 ghost use Rattle.lists.specs.Fill.{tab};
 ghost use Rattle.lists.specs.Block.{sample};
-ghost use Rattle.smooth_steps.specs.Parts.{edge_at, weighed, mean, Step, Entries, Weights};
+ghost use Rattle.smooth_steps.specs.Parts.{edge_at, weighed, Step, Entries, Weights};
 
 // A row from four entries of the edge above.
 pub(crate) fn quad_row(above: &[i32], e: u32, w: u32, m: u32, k: u32, v: u32, row: &mut [f32])
@@ -28,33 +28,6 @@ pub fn quad_across(l: u32, e: u32, m: u32, k: u32, weights: &[u8], row: &mut [f3
     let y = smooth_steps::smooth_sample(l, e, m - 2, m, k, weights[1] as u32);
     let z = smooth_steps::smooth_sample(l, e, m - 3, m, k, weights[2] as u32);
     let u = smooth_steps::smooth_sample(l, e, m - 4, m, k, weights[3] as u32);
-    row[0] = x;
-    row[1] = y;
-    row[2] = z;
-    row[3] = u;
-}
-
-// The mean of both: a row from four entries of the edge above by w and v, and one from the entry l of the edge at the left.
-pub fn quad_both(
-    above: &[i32],
-    e: u32,
-    w: u32,
-    v: u32,
-    l: u32,
-    f: u32,
-    m: u32,
-    k: u32,
-    weights: &[u8],
-    row: &mut [f32],
-)
-    requires row_len { (length row.old ≡ 4) × (m ≡ 4) × Entries above.now 4 × Step e w m k × (v < 64) }
-    requires step { Step f 0 m k × (l ≤ 4095) × Weights weights.now 4 4 }
-    ensures { row.new ≡ tab (length row.old) (λ c. sample (pos (mean (weighed m e (nat_abs (edge_at above.now c)) w v) (weighed m f l (m - 1 - c) (get_or weights.now c 0))))) }
-{
-    let x = smooth_steps::mean_sample(above[0], e, w, v, l, f, m - 1, weights[0] as u32, m, k);
-    let y = smooth_steps::mean_sample(above[1], e, w, v, l, f, m - 2, weights[1] as u32, m, k);
-    let z = smooth_steps::mean_sample(above[2], e, w, v, l, f, m - 3, weights[2] as u32, m, k);
-    let u = smooth_steps::mean_sample(above[3], e, w, v, l, f, m - 4, weights[3] as u32, m, k);
     row[0] = x;
     row[1] = y;
     row[2] = z;

@@ -1,2 +1,1 @@
--- What a row of numbers holds.
-pub mod Numbers
+-- The proofs of the rows' functions alone.

@@ -1,4 +1,3 @@
 -- Laws of the steps, in natural numbers.
 pub mod Parts
 pub mod Steps
-pub mod Sixteen

@@ -1,4 +1,4 @@
--- What a step (`Step`) and the entries of an edge (`Entries`) give to the rows. Assumes nothing.
+-- What a step (`Step`) and the entries of an edge (`Entries`) give to the rows and the lines. Assumes nothing.
 use mathlib.Core.Path.{◌≡◌, sym, ◌∙◌, ap}
 use mathlib.Core.Bool.{true}
 use mathlib.Core.List.{List}
@@ -6,13 +6,16 @@ use Prim.Native.Nat.{ℕ, ◌+◌, ◌-◌, ◌*◌, ◌/◌, ◌^◌, ◌≤◌
 use native.Mathlib.Nat.{mul-le-mul}
 use native.Mathlib.Omega.{arith}
 use lib.IntN.{ℤ, pos, nat_abs}
+use lib.ListN.{length, get_or}
 use lib.Pow.{pow_pos, pow_mono}
 use mir.Syntax.{w32}
 use mir.Val.{to_z, of_z}
 use Rattle.signed.specs.Range.{inside}
 use Rattle.signed.proofs.Bound.{back-abs}
 use Rattle.signed.proofs.Range.{inside-abs}
-use Rattle.smooth_steps.specs.Parts.{edge_at, part, weighed, Step, Entries}
+use Rattle.lists.specs.Fill.{filled}
+use Rattle.lists.proofs.Fill.{length-filled, filled_at}
+use Rattle.smooth_steps.specs.Parts.{edge_at, part, weighed, Step, Entries, Weights}
 use Rattle.smooth_steps.proofs.Parts.{ramp-is, part-most, weighed-most}
 
 module _ {e w m k : ℕ} (s : Step e w m k) where
@@ -55,3 +58,16 @@ module _ {edge : List ℤ} {n : ℕ} (s : Entries edge n) (i : ℕ) (l : i < n) 
 
   pub entry-abs : nat_abs (to_z w32 (of_z w32 (edge_at edge i))) ≡ nat_abs (edge_at edge i)
   entry-abs = ap nat_abs back
+
+-- a whole line from l, as `across` leaves it
+module _ {e m k reach : ℕ} {weights line' : List ℕ} (s : Step e 0 m k) (w : Weights weights m reach) (l : ℕ) (line : List ℕ)
+    (u : line' ≡ filled m (λ c. weighed m e l (m - 1 - c) (get_or weights c 0)) line) where
+  pub line-long : m ≤ length line → length line' ≡ length line
+  line-long h = ap length u ∙ length-filled m _ line h
+
+  pub line_at : (i : ℕ) → i < m → get_or line' i 0 ≡ weighed m e l (m - 1 - i) (get_or weights i 0)
+  line_at i hi = ap (λ xs. get_or xs i 0) u ∙ filled_at m _ line i 0 hi
+
+  -- its entries are samples
+  pub line-most : l ≤ 4095 → (i : ℕ) → i < m → get_or line' i 0 ≤ 4095
+  line-most h i hi = omega (arith, line_at i hi, both_most (by_parts s (m - 1 - i) (omega arith)) h (get_or weights i 0) (w.parts i hi))

@@ -1,5 +1,5 @@
 -- What the rows work out, in ℕ, where nothing is negative. That these are the samples of document 01 is shown in `smooth_spec`.
-use Rattle.std.specs.Prelude.{◌≡◌, List, ℕ, ◌+◌, ◌-◌, ◌*◌, ◌/◌, ◌%◌, ◌^◌, ◌≤◌, ◌<◌, ℤ, pos, length, get_or}
+use Rattle.std.specs.Prelude.{◌≡◌, List, ℕ, ◌+◌, ◌-◌, ◌*◌, ◌/◌, ◌^◌, ◌≤◌, ◌<◌, ℤ, pos, length, get_or}
 use Rattle.signed.specs.Range.{Edge}
 
 -- an entry of an edge
@@ -36,18 +36,3 @@ pub record Weights (weights : List ℕ) (n reach : ℕ) : Type 0 where
   pub within : reach ≤ n
   pub parts : (i : ℕ) → i < n → get_or weights i 0 < 64
   pub none : (i : ℕ) → reach ≤ i → i < n → get_or weights i 0 ≡ 0
-
--- a weight in lanes of 16 bits: so many parts of 16384, and half of it is a whole number
-pub record Fine (w : ℕ) : Type 0 where
-  pub most : w ≤ 16384
-  pub even : w % 2 ≡ 0
-
--- the first n weights of a list are such
-pub record Slopes (slopes : List ℕ) (n : ℕ) : Type 0 where
-  pub long : n ≤ length slopes
-  pub fine : (i : ℕ) → i < n → Fine (get_or slopes i 0)
-
--- the first n numbers of a list are samples of some depth
-pub record Numbers (numbers : List ℕ) (n : ℕ) : Type 0 where
-  pub long : n ≤ length numbers
-  pub most : (i : ℕ) → i < n → get_or numbers i 0 ≤ 4095

@@ -1,7 +1,5 @@
 // The steps of a sample of smooth, smooth_v and smooth_h (document 01, The predictors), in natural numbers. A remainder that changes nothing (`% 4096`, `% 128`, `% 64`) tells the compiler how few digits a
 // factor has, so that four products are one instruction.
-pub mod lanes;
-
 ghost use Rattle.std.specs.Prelude.{◌≡◌, true, ◌+◌, ◌-◌, ◌*◌, ◌/◌, ◌^◌, ◌≤◌, ◌<◌, pos, nat_abs};
 ghost use Rattle.signed.specs.Range.{inside};
 ghost use Rattle.lists.specs.Block.{sample};
@@ -64,21 +62,13 @@ pub fn to_sample(n: u32) -> f32
     (n as i32) as f32
 }
 
-// From the end e to t by w parts of m = 2^k, and from there to t by v parts of 64.
-fn smooth_number(t: u32, e: u32, w: u32, m: u32, k: u32, v: u32) -> u32
-    requires { Step e w m k × (t ≤ 4095) × (v < 64) }
-    ensures { result ≡ weighed m e t w v }
-{
-    let rest = e * (m - w) + m / 2;
-    weigh(ramp(t, w, rest, k), t, v)
-}
-
-// The same as a sample.
+// From the end e to t by w parts of m = 2^k, and from there to t by v parts of 64, as a sample.
 pub fn smooth_sample(t: u32, e: u32, w: u32, m: u32, k: u32, v: u32) -> f32
     requires { Step e w m k × (t ≤ 4095) × (v < 64) }
     ensures { result ≡ sample (pos (weighed m e t w v)) }
 {
-    to_sample(smooth_number(t, e, w, m, k, v))
+    let rest = e * (m - w) + m / 2;
+    to_sample(weigh(ramp(t, w, rest, k), t, v))
 }
 
 // The same to an entry of an edge.
@@ -87,25 +77,4 @@ pub fn entry_sample(x: i32, e: u32, w: u32, m: u32, k: u32, v: u32) -> f32
     ensures { result ≡ sample (pos (weighed m e (nat_abs x) w v)) }
 {
     smooth_sample(natural(x), e, w, m, k, v)
-}
-
-// The mean of two such numbers: to an entry x of an edge by w and v, and to l by y and u.
-pub fn mean_sample(
-    x: i32,
-    e: u32,
-    w: u32,
-    v: u32,
-    l: u32,
-    f: u32,
-    y: u32,
-    u: u32,
-    m: u32,
-    k: u32,
-) -> f32
-    requires { Step e w m k × (inside (pos 4095) x ≡ true) × (v < 64) × Step f y m k × (l ≤ 4095) × (u < 64) }
-    ensures { result ≡ sample (pos (mean (weighed m e (nat_abs x) w v) (weighed m f l y u))) }
-{
-    let down = smooth_number(natural(x), e, w, m, k, v);
-    let over = smooth_number(l, f, y, m, k, u);
-    to_sample(mean_of(down, over))
 }

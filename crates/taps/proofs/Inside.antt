@@ -1,14 +1,14 @@
 -- A sample between entries is in 0..M, and of chroma the two taps' value already is: its clip never acts. M, the taps' phase and the entries are open.
 -- Assumes nothing.
 use mathlib.Core.Bool.{Bool, true, false}
-use mathlib.Core.Path.{◌≡◌, sym, ◌∙◌, ap}
+use mathlib.Core.Path.{◌≡◌, ◌∙◌, ap}
 use Prim.Native.Nat.{ℕ, ◌≤◌, ◌+◌, ◌-◌, ◌*◌, ◌/◌}
 use native.Mathlib.Nat.{mul-le-mul_left}
 use native.Mathlib.Omega.{arith}
 use lib.IntN.{ℤ, pos, nat_abs}
 use Rattle.signed.specs.Range.{inside}
 use Rattle.signed.proofs.Range.{inside-abs, inside-pos, pos-inside}
-use Rattle.taps.specs.Interp.{clip, taps2, phase, between}
+use Rattle.taps.specs.Interp.{taps2, phase, between}
 use Rattle.taps.proofs.Laws.{clip-inside, clip-same}
 
 module _ (M : ℕ) where
@@ -37,9 +37,3 @@ module _ (M : ℕ) where
       → between false (pos M) p q ≡ taps2 (pos (32 - phase q)) (pos (phase q)) (p (q / 64 + 1)) (p (q / 64 + 1 + 1))
   unfolding between
   chroma-clip-never-acts p q a b = clip-same M _ (two-inside (phase q) _ _ (omega arith) a b)
-
--- the same, of an m in 0..4095
-pub two-clipped : (m : ℤ) (f : ℕ) (a b : ℤ) → inside (pos 4095) m ≡ true → f ≤ 32 → inside (pos (nat_abs m)) a ≡ true → inside (pos (nat_abs m)) b ≡ true
-    → taps2 (pos (32 - f)) (pos f) a b ≡ clip m (taps2 (pos (32 - f)) (pos f) a b)
-two-clipped m f a b h l p q =
-    sym (clip-same (nat_abs m) _ (two-inside (nat_abs m) f a b l p q)) ∙ ap (λ (z : ℤ). clip z (taps2 (pos (32 - f)) (pos f) a b)) (sym (inside-pos 4095 m h))

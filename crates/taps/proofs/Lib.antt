@@ -2,8 +2,5 @@
 pub mod Laws
 pub mod Taps
 pub mod Flat
+pub mod Four
 pub mod Inside
-pub mod Samples
-pub mod Floats
-pub mod Signs
-pub mod Pairs

@@ -54,7 +54,3 @@ f4-taps s h =
       t2 = leb→le _ 128 (both_left c _ v);
       t3 = leb→le _ 128 (both_right c _ v);
     }
-
--- ---- tap k of phase f of a table, as the code reads it
-abbrev pub tap : List (List ℤ) → ℕ → ℕ → ℤ
-tap fs f k = get_or (get_or fs f []) k (pos 0)

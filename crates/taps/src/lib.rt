@@ -1,4 +1,5 @@
-// One sample between the entries of an edge, and the table of its taps (document 01, Directions).
+// One sample between the entries of an edge, and the tables of its taps (document 01, Directions).
+mod f2;
 mod f4;
 pub mod table;
 pub mod value;

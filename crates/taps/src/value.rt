@@ -1,5 +1,5 @@
 // One sample: its taps, and the clip to 0..m.
-ghost use Rattle.std.specs.Prelude.{◌≡◌, true, cond, ◌≤◌, ◌^◌, pos, nat_abs, ◌*ℤ◌};
+ghost use Rattle.std.specs.Prelude.{◌≡◌, true, ◌≤◌, pos, nat_abs, ◌*ℤ◌};
 ghost use Rattle.signed.specs.Range.{inside};
 ghost use Rattle.lists.specs.Block.{sample};
 ghost use Rattle.taps.specs.Interp.{clip, taps4, taps2, Taps};
@@ -11,24 +11,6 @@ pub fn clipped(x: i32, m: i32) -> i32
 {
     let y = minmax::select(x < 0, 0, x);
     minmax::select(m < y, m, y)
-}
-
-// The first or the second, without a branch.
-fn pick(first: bool, a: f32, b: f32) -> f32
-    ensures { result ≡ cond first a b }
-{
-    if first { a } else { b }
-}
-
-// x clipped to 0..m, as a sample: the two steps on samples are one instruction each, also where those on whole numbers are not.
-pub fn clip_sample(x: i32, m: i32) -> f32
-    requires { (nat_abs x ≤ 2 ^ 24) × (inside (pos 4095) m ≡ true) }
-    ensures { result ≡ sample (clip m x) }
-{
-    let v = x as f32;
-    let top = m as f32;
-    let y = pick(v < 0.0, 0.0, v);
-    pick(top < y, top, y)
 }
 
 // A tap times an entry. Both are told as what they are, numbers of 16 binary digits, whose products the processor has at less cost.
@@ -70,13 +52,14 @@ pub fn luma_sample(
     requires a_value { (inside (pos 4095) a ≡ true) × (inside (pos 4095) b ≡ true) × (inside (pos 4095) c ≡ true) × (inside (pos 4095) d ≡ true) }
     ensures { result ≡ sample (clip m (taps4 f0 f1 f2 f3 a b c d)) }
 {
-    clip_sample(four(f0, f1, f2, f3, a, b, c, d), m)
+    clipped(four(f0, f1, f2, f3, a, b, c, d), m) as f32
 }
 
-// A sample of chroma, from two entries. Between entries in 0..M it is in 0..M: no clip.
-pub fn chroma_sample(g: i32, f: i32, a: i32, b: i32) -> f32
-    requires { (nat_abs g ≤ 32) × (nat_abs f ≤ 32) × (inside (pos 4095) a ≡ true) × (inside (pos 4095) b ≡ true) }
-    ensures { result ≡ sample (taps2 g f a b) }
+// A sample of chroma, from two entries.
+pub fn chroma_sample(g: i32, f: i32, a: i32, b: i32, m: i32) -> f32
+    requires g_bound { (nat_abs g ≤ 32) × (nat_abs f ≤ 32) × (inside (pos 4095) a ≡ true) × (inside (pos 4095) b ≡ true) }
+    requires m_value { inside (pos 4095) m ≡ true }
+    ensures { result ≡ sample (clip m (taps2 g f a b)) }
 {
-    two(g, f, a, b) as f32
+    clipped(two(g, f, a, b), m) as f32
 }

@@ -11,9 +11,9 @@ listed lum M xs q = between lum M (λ k. get_or xs k (pos 0)) (q + 192)
 abbrev pub ahead : Bool → ℤ → ℕ → List ℤ → ℕ → ℕ → ℤ
 ahead lum M dx xs r c = listed lum M xs (64 * (c + 1) + (r + 1) * dx)
 
--- a list has n entries, which are in 0..M
-abbrev pub Holds : ℕ → ℕ → List ℤ → Type 0
-Holds M n xs = (n ≤ length xs) × Edge M n xs
+-- a list has n entries that are samples
+abbrev pub Holds : ℕ → List ℤ → Type 0
+Holds n xs = (n ≤ length xs) × Edge 4095 n xs
 
 -- a side of at most 64, in strips of four
 abbrev pub Fours : ℕ → Type 0

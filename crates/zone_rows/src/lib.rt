@@ -1,3 +1,4 @@
-// Rows of samples along one list of entries, as zone 1 takes them, and a strip of four rows spread (document 01, Directions).
+// Rows of samples along one list of entries, as zones 1 and 3 take them, and a strip of four rows (document 01, Directions).
 pub mod spread;
 pub mod z1;
+pub mod z3;

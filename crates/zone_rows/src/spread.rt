@@ -16,21 +16,17 @@ pub fn spread_row(strip: &[f32], j: usize, row: &mut [f32])
     }
 }
 
-// All four rows, each of w samples, in one loop.
+// All four rows, each of w samples.
 pub fn spread(strip: &[f32], w: usize, out: &mut [f32])
     requires { (w ≤ 64) × (w * 4 ≤ length strip.now) × (length out.old ≡ 4 * w) }
     ensures { out.new ≡ tab (length out.old) (rows w (λ j c. get_or strip.now (c * 4 + j) nan)) }
 {
-    let mut c = 0;
-    while c < w {
-        let x = strip[c * 4];
-        let y = strip[c * 4 + 1];
-        let z = strip[c * 4 + 2];
-        let u = strip[c * 4 + 3];
-        out[c] = x;
-        out[w + c] = y;
-        out[2 * w + c] = z;
-        out[3 * w + c] = u;
-        c += 1;
+    let mut o = 0;
+    let mut j = 0;
+    while j < 4 {
+        let e = o + w;
+        spread_row(strip, j, &mut out[o..e]);
+        o = e;
+        j += 1;
     }
 }

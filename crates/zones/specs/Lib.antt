@@ -1,2 +1,1 @@
--- What the code's steps hand on; what the blocks promise `zone_spec` defines.
-pub mod Parts
+-- No definitions: the blocks promise what `zone_spec` defines.

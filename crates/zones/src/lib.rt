@@ -1,6 +1,4 @@
 // Zone 2 over its two lists of entries (document 01, Directions). The definitions and the laws of all three zones stand in `zone_spec`.
-mod left;
 mod split;
-mod turn;
 mod walk;
 pub mod z2;

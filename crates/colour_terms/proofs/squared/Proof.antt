@@ -1,17 +1,16 @@
--- `squared` meets its contract: c has no more than twelve digits, and a square of twelve digits, and what is added, fit. Assumes nothing.
-use mathlib.Core.Path.{◌≡◌, sym, ◌∙◌, ap, subst}
+-- `squared` meets its contract: a square of twelve digits, and what is added, fit. Assumes nothing.
+use mathlib.Core.Path.{sym, subst}
 use Prim.Native.Nat.{◌-◌, ◌≤◌, ◌^◌}
 use native.Mathlib.Omega.{arith}
-use lib.Bits.{bit_and}
-use lib.IntN.{ℤ, pos, nat_abs, ◌+ℤ◌, ◌*ℤ◌}
+use lib.IntN.{ℤ, nat_abs, ◌+ℤ◌, ◌*ℤ◌}
 use lib.Signed.{shr_z}
 use mir.Syntax.{w32}
-use mir.Val.{SFits, to_z, of_z}
+use mir.Val.{SFits}
 use borrow.Author.Rules.{rules}
 use Rattle.signed.proofs.Bound.{Bound, b-abs, b-add, b-mul, b-shr, b-fits, back}
-use Rattle.signed.proofs.Range.{inside-abs, inside-pos}
+use Rattle.signed.proofs.Range.{inside-abs}
 use Rattle.colour_terms.specs.Terms.{middle, squared}
-use Rattle.signed.proofs.Naturals.{pow-le, low-back, low-is}
+use Rattle.signed.proofs.Naturals.{pow-le}
 use Rattle.colour_terms.proofs.squared.Statement.{statement}
 use Rattle.colour_terms.proofs.squared.Tie as tie
 
@@ -21,9 +20,6 @@ module _ (c : tie.Start) where
 
   x-most : Bound 4095 x
   x-most = b-abs (inside-abs 4095 x c.requires.0)
-
-  low= : to_z w32 (bit_and (of_z w32 x) 4095) ≡ x
-  low= = low-back x ∙ ap pos (low-is x c.requires.0) ∙ sym (inside-pos 4095 x c.requires.0)
 
   mid-most : Bound 2048 c.args.mid
   mid-most =
@@ -40,10 +36,10 @@ module _ (c : tie.Start) where
   r = b-fits w32 (b-shr (2 ^ c.args.bits) (b-add (b-mul x-most x-most) mid-most)) tt
 
 mul-result : tie.Need-overflow-mul-result
-mul-result c = simp (low= c) (m c)
+mul-result c = simp (back w32 c.ranges.c) (m c)
 
 add-result : tie.Need-overflow-add-result
-add-result c = simp (low= c, back w32 c.ranges.mid, back w32 (m c)) (a c)
+add-result c = simp (back w32 c.ranges.c, back w32 c.ranges.mid, back w32 (m c)) (a c)
 
 cast-result : tie.Need-overflow-cast-result
 cast-result c = search rules
@@ -53,7 +49,7 @@ shr-result c = search rules
 
 returns : tie.Need-returns
 unfolding squared
-returns c = simp (low= c, back w32 c.ranges.mid, back w32 (m c), back w32 (a c), back w32 (r c), sym c.requires.1)
+returns c = simp (back w32 c.ranges.c, back w32 c.ranges.mid, back w32 (m c), back w32 (a c), back w32 (r c), sym c.requires.1)
 
 pub squared-spec : {M : Type 1} → statement M
 squared-spec = tie.close (tie.spec mul-result add-result cast-result shr-result returns)

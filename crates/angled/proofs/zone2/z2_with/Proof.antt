@@ -3,9 +3,7 @@ use borrow.Author.Rules.{rules}
 use Prim.Native.Nat.{◌-◌}
 use native.Mathlib.Omega.{arith}
 use mathlib.Core.Path.{◌∙◌}
-use lib.IntN.{nat_abs}
 use mir.Facts.{to_z-of_z}
-use Rattle.taps.proofs.Samples.{in-sample, edge-sample}
 use Rattle.setting.proofs.Table.{step-most, steps-within}
 use Rattle.angled.proofs.TwoEdges.{above-samples, left-samples, by-strips}
 use Rattle.angled.proofs.zone2.z2_with.Statement.{statement}
@@ -20,7 +18,7 @@ above-list-requires c κs =
     let f = s.requires.0.0 in
     simp (to_z-of_z, s.ranges.corner) (
       (f.0, omega arith, omega (arith, f.1), s.requires.0.3, omega arith, omega (arith, f.1, s.requires.1.0.0), omega (arith, f.1, s.requires.1.0.1)),
-      (edge-sample s.args.m s.requires.1.1.3 s.args.bs s.args.above.now s.requires.1.1.0, in-sample s.args.m s.requires.1.1.3 s.args.corner s.requires.1.1.2),
+      (s.requires.1.1.0, s.requires.1.1.2),
     )
 
 left-list-requires : tie.Need-left-list-requires
@@ -29,7 +27,7 @@ left-list-requires c κs =
     let f = s.requires.0.0 in
     simp (to_z-of_z, s.ranges.corner) (
       (f.0, omega arith, omega (arith, f.1), s.requires.0.4, omega arith, omega (arith, f.1, s.requires.1.0.0), omega (arith, f.1, s.requires.1.0.2)),
-      (edge-sample s.args.m s.requires.1.1.3 s.args.bs s.args.left.now s.requires.1.1.1, in-sample s.args.m s.requires.1.1.3 s.args.corner s.requires.1.1.2),
+      (s.requires.1.1.1, s.requires.1.1.2),
     )
 
 sub-step-of : tie.Need-overflow-sub-step-of
@@ -52,10 +50,10 @@ z2-strips-requires c κs =
     let s = x.before.before.before.before.before in
     let f = s.requires.0.0 in
     let w = steps-within s.args.set.angle s.requires.0.1 s.requires.0.2 in
-    let top = above-samples s.args.bs s.args.set s.args.corner (nat_abs s.args.m) s.args.above.now _ _ s.requires.1.1.0 s.requires.1.1.2 (simp (to_z-of_z, s.ranges.corner) at x.above-list.ensures) in
-    let left = left-samples s.args.bs s.args.set s.args.corner (nat_abs s.args.m) s.args.left.now _ _ s.requires.1.1.1 s.requires.1.1.2 (simp (to_z-of_z, s.ranges.corner) at y.left-list.ensures) in
+    let top = above-samples s.args.bs s.args.set s.args.corner s.args.above.now _ _ s.requires.1.1.0 s.requires.1.1.2 (simp (to_z-of_z, s.ranges.corner) at x.above-list.ensures) in
+    let left = left-samples s.args.bs s.args.set s.args.corner s.args.left.now _ _ s.requires.1.1.1 s.requires.1.1.2 (simp (to_z-of_z, s.ranges.corner) at y.left-list.ensures) in
     simp (to_z-of_z, s.ranges.m, d.step-of2.ensures, d.before.before.step_of_lem.ensures) (
-      (f.1, f.2, omega (arith, f.1), w.0, step-most (180 - s.args.set.angle) (omega arith), w.1, w.2, omega (arith, f.2, s.requires.1.0.3), rw f.2 s.requires.0.5),
+      (f.1, omega (arith, f.1), w.0, step-most (180 - s.args.set.angle) (omega arith), w.1, w.2, omega (arith, f.1, s.requires.1.0.3), rw f.2 s.requires.0.5),
       (
         s.requires.1.1.3,
         (omega (arith, f.1, s.requires.1.0.1), λ j h. top j (omega arith)),

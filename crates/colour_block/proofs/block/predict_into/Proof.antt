@@ -1,6 +1,7 @@
 -- `predict_into` meets its contract: whichever product serves, the rows are the definition's block. Assumes nothing.
 use borrow.Author.Rules.{rules}
-use mathlib.Core.Path.{◌∙◌}
+use mathlib.Core.Path.{◌∙◌, sym}
+use mathlib.Core.Bool.{true≢false}
 use mir.Facts.{to_z-of_z}
 use Rattle.colour_block.proofs.Taken.{block-is}
 use Rattle.colour_block.proofs.block.predict_into.Statement.{statement}
@@ -9,11 +10,18 @@ use Rattle.colour_block.proofs.block.predict_into.Tie as tie
 of-requires : tie.Need-of-requires
 of-requires c κs = search rules
 
+slice-aggregate-lines : tie.Need-slice-aggregate-lines
+slice-aggregate-lines c = search rules
+
+slice-aggregate-lines-2 : tie.Need-slice-aggregate-lines-2
+slice-aggregate-lines-2 c = search rules
+
 lines-requires : tie.Need-lines-requires
 lines-requires c κs =
-    let o = c.before.before in
-    let m = o.of.ensures in
-    (o.before.requires, (m.0, m.1.bits, m.0.short c.before.if1.true))
+    let t = c.before.before.before in
+    let o = t.before in
+    let s = o.before in
+    (s.requires, (o.of.ensures.0, o.of.ensures.1.bits, λ e. absurd (true≢false (sym t.if1.true ∙ e))))
 
 tabled-requires : tie.Need-tabled-requires
 tabled-requires c κs = search rules
@@ -23,7 +31,7 @@ same_length c = search rules
 
 returns : tie.Need-returns
 returns c =
-    let o = c.before.before.before.before in
+    let o = c.before.before.before.before.before.before in
     let s = o.before in
     let made = simp (to_z-of_z, s.ranges.p0, s.ranges.p1, s.ranges.p2) at o.of.ensures.1 in
     c.before.lines.ensures ∙ block-is s.args.b _ s.requires.place o.of.result s.args.luma.now _ _ _ made s.args.out.now
@@ -43,6 +51,8 @@ predict-into-spec =
     tie.close
     (tie.spec
     of-requires
+    slice-aggregate-lines
+    slice-aggregate-lines-2
     lines-requires
     tabled-requires
     same_length

@@ -1,6 +1,6 @@
 -- `short_row` meets its contract. The invariant: the first i samples are written. Assumes nothing.
 use borrow.Author.Rules.{sfits_of}
-use Prim.Native.Nat.{ℕ, ◌+◌, ◌≤◌, ◌-◌}
+use Prim.Native.Nat.{ℕ, ◌≤◌, ◌-◌}
 use native.Mathlib.Omega.{arith}
 use mathlib.Core.Path.{◌≡◌, refl, sym, ◌∙◌}
 use lib.IntN.{ℤ, pos}
@@ -17,11 +17,11 @@ use Rattle.colour_row.proofs.row.short_row.Statement.{statement}
 use Rattle.colour_row.proofs.row.short_row.Tie as tie
 
 abbrev invariant-loop : tie.invariant-loop
-invariant-loop luma near centre k row₀ i₀ row i =
-    (i ≤ length row₀) × (length row ≡ length row₀) × (row ≡ filled i (λ x. mixed k (at luma (near + x)) (at luma (centre + x))) row₀)
+invariant-loop near centre k row₀ i₀ row i =
+    (i ≤ length row₀) × (length row ≡ length row₀) × (row ≡ filled i (λ x. mixed k (at near x) (at centre x)) row₀)
 
 abbrev decreases-loop : tie.decreases-loop
-decreases-loop luma near centre k row₀ i₀ row i = length row₀ - i
+decreases-loop near centre k row₀ i₀ row i = length row₀ - i
 
 -- the two entries are luma of the block's depth
 module _ (c : tie.In-loop invariant-loop decreases-loop) where
@@ -32,10 +32,10 @@ module _ (c : tie.In-loop invariant-loop decreases-loop) where
   i = c.before.loop.i
 
   abbrev n : ℤ
-  n = at s.args.luma.now (s.args.near + i)
+  n = at s.args.near.now i
 
   abbrev v : ℤ
-  v = at s.args.luma.now (s.args.centre + i)
+  v = at s.args.centre.now i
 
   n-in : Luma s.args.k n
   n-in = s.pre.2.near-in i (omega arith)
@@ -52,17 +52,11 @@ module _ (c : tie.In-loop invariant-loop decreases-loop) where
 loop-holds : tie.Need-loop-init invariant-loop decreases-loop
 loop-holds c = (omega arith, refl, sym (filled_none _ _))
 
-add-short-sample : tie.Need-overflow-add-short-sample invariant-loop decreases-loop
-add-short-sample c = omega (arith, (s c).requires.2.near-long)
-
 mul-short-sample : tie.Need-overflow-mul-short-sample invariant-loop decreases-loop
 mul-short-sample c = omega (arith, (s c).requires.2.near-long)
 
 shared-slice-copy-out-short-sample : tie.Need-shared-slice-copy-out-short-sample invariant-loop decreases-loop
 shared-slice-copy-out-short-sample c = omega (arith, (s c).requires.2.near-long)
-
-add-short-sample-2 : tie.Need-overflow-add-short-sample-2 invariant-loop decreases-loop
-add-short-sample-2 c = omega (arith, (s c.before).pre.2.centre-long)
 
 mul-short-sample-2 : tie.Need-overflow-mul-short-sample-2 invariant-loop decreases-loop
 mul-short-sample-2 c = omega (arith, (s c.before).pre.2.centre-long)
@@ -73,8 +67,8 @@ shared-slice-copy-out-short-sample-2 c = omega (arith, (s c.before).pre.2.centre
 short-sample-requires : tie.Need-short-sample-requires invariant-loop decreases-loop
 short-sample-requires c κs = let l = c.before.before in simp (n= l, v= l) ((s l).requires.0, (s l).requires.1, n-in l, v-in l)
 
-mul-t17 : tie.Need-overflow-mul-t17 invariant-loop decreases-loop
-mul-t17 c = omega arith
+mul-t14 : tie.Need-overflow-mul-t14 invariant-loop decreases-loop
+mul-t14 c = omega arith
 
 slice-set-from-row : tie.Need-slice-set-from-row invariant-loop decreases-loop
 slice-set-from-row c = omega arith
@@ -105,14 +99,12 @@ short-row-spec =
     invariant-loop
     decreases-loop
     loop-holds
-    add-short-sample
     mul-short-sample
     shared-slice-copy-out-short-sample
-    add-short-sample-2
     mul-short-sample-2
     shared-slice-copy-out-short-sample-2
     short-sample-requires
-    mul-t17
+    mul-t14
     slice-set-from-row
     add-i
     loop-less

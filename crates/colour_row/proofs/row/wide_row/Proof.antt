@@ -1,6 +1,6 @@
 -- `wide_row` meets its contract. The invariant: the first i samples are written. Assumes nothing.
 use borrow.Author.Rules.{sfits_of}
-use Prim.Native.Nat.{ℕ, ◌+◌, ◌≤◌, ◌-◌}
+use Prim.Native.Nat.{ℕ, ◌≤◌, ◌-◌}
 use native.Mathlib.Omega.{arith}
 use mathlib.Core.Path.{◌≡◌, refl, sym, ◌∙◌}
 use lib.IntN.{ℤ, pos}
@@ -17,11 +17,11 @@ use Rattle.colour_row.proofs.row.wide_row.Statement.{statement}
 use Rattle.colour_row.proofs.row.wide_row.Tie as tie
 
 abbrev invariant-loop : tie.invariant-loop
-invariant-loop luma near centre k t0 t1 row₀ i₀ row i =
-    (i ≤ length row₀) × (length row ≡ length row₀) × (row ≡ filled i (λ x. mixed k (at luma (near + x)) (at luma (centre + x))) row₀)
+invariant-loop near centre k t0 t1 row₀ i₀ row i =
+    (i ≤ length row₀) × (length row ≡ length row₀) × (row ≡ filled i (λ x. mixed k (at near x) (at centre x)) row₀)
 
 abbrev decreases-loop : tie.decreases-loop
-decreases-loop luma near centre k t0 t1 row₀ i₀ row i = length row₀ - i
+decreases-loop near centre k t0 t1 row₀ i₀ row i = length row₀ - i
 
 -- the two entries are luma of the block's depth
 module _ (c : tie.In-loop invariant-loop decreases-loop) where
@@ -32,10 +32,10 @@ module _ (c : tie.In-loop invariant-loop decreases-loop) where
   i = c.before.loop.i
 
   abbrev n : ℤ
-  n = at s.args.luma.now (s.args.near + i)
+  n = at s.args.near.now i
 
   abbrev v : ℤ
-  v = at s.args.luma.now (s.args.centre + i)
+  v = at s.args.centre.now i
 
   n-in : Luma s.args.k n
   n-in = s.pre.2.near-in i (omega arith)
@@ -52,17 +52,11 @@ module _ (c : tie.In-loop invariant-loop decreases-loop) where
 loop-holds : tie.Need-loop-init invariant-loop decreases-loop
 loop-holds c = (omega arith, refl, sym (filled_none _ _))
 
-add-wide-sample : tie.Need-overflow-add-wide-sample invariant-loop decreases-loop
-add-wide-sample c = omega (arith, (s c).requires.2.near-long)
-
 mul-wide-sample : tie.Need-overflow-mul-wide-sample invariant-loop decreases-loop
 mul-wide-sample c = omega (arith, (s c).requires.2.near-long)
 
 shared-slice-copy-out-wide-sample : tie.Need-shared-slice-copy-out-wide-sample invariant-loop decreases-loop
 shared-slice-copy-out-wide-sample c = omega (arith, (s c).requires.2.near-long)
-
-add-wide-sample-2 : tie.Need-overflow-add-wide-sample-2 invariant-loop decreases-loop
-add-wide-sample-2 c = omega (arith, (s c.before).pre.2.centre-long)
 
 mul-wide-sample-2 : tie.Need-overflow-mul-wide-sample-2 invariant-loop decreases-loop
 mul-wide-sample-2 c = omega (arith, (s c.before).pre.2.centre-long)
@@ -73,8 +67,8 @@ shared-slice-copy-out-wide-sample-2 c = omega (arith, (s c.before).pre.2.centre-
 wide-sample-requires : tie.Need-wide-sample-requires invariant-loop decreases-loop
 wide-sample-requires c κs = let l = c.before.before in simp (n= l, v= l) ((s l).requires.0, (s l).requires.1, n-in l, v-in l)
 
-mul-t19 : tie.Need-overflow-mul-t19 invariant-loop decreases-loop
-mul-t19 c = omega arith
+mul-t16 : tie.Need-overflow-mul-t16 invariant-loop decreases-loop
+mul-t16 c = omega arith
 
 slice-set-from-row : tie.Need-slice-set-from-row invariant-loop decreases-loop
 slice-set-from-row c = omega arith
@@ -105,14 +99,12 @@ wide-row-spec =
     invariant-loop
     decreases-loop
     loop-holds
-    add-wide-sample
     mul-wide-sample
     shared-slice-copy-out-wide-sample
-    add-wide-sample-2
     mul-wide-sample-2
     shared-slice-copy-out-wide-sample-2
     wide-sample-requires
-    mul-t19
+    mul-t16
     slice-set-from-row
     add-i
     loop-less

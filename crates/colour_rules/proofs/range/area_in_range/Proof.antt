@@ -2,7 +2,7 @@
 use Prim.Native.Nat.{ℕ, ◌+◌, ◌-◌, ◌*◌, ◌≤◌}
 use native.Mathlib.Omega.{arith}
 use native.Mathlib.Numerals.{add-one}
-use mathlib.Core.Path.{◌≡◌, refl, sym, ◌∙◌, ap, subst}
+use mathlib.Core.Path.{◌≡◌, refl, ◌∙◌, ap}
 use mathlib.Core.Bool.{Bool, ◌&&◌}
 use mathlib.Core.List.{List}
 use borrow.Author.Rules.{rules}
@@ -16,7 +16,6 @@ use Rattle.lists.proofs.Fill.{rest-length, rest_at}
 use Rattle.edge_line.specs.Every.{every}
 use Rattle.edge_line.proofs.Every.{every-same}
 use Rattle.colour_terms.specs.Terms.{stride}
-use Rattle.colour_rules.specs.Area.{Ones}
 use Rattle.colour_rules.proofs.range.area_in_range.Statement.{statement}
 use Rattle.colour_rules.proofs.range.area_in_range.Tie as tie
 
@@ -33,7 +32,7 @@ decreases-loop luma s width height m ok₀ from₀ j₀ ok from j = height - j
 
 -- the row lies in the list
 room : (c : tie.In-loop invariant-loop decreases-loop) → c.before.loop.from + c.before.before.args.width ≤ length c.before.before.args.luma.now
-room c = omega (arith, c.before.before.requires.0.lies c.before.loop.j c.loop-test.true)
+room c = omega (arith, c.before.before.requires.lies c.before.loop.j c.loop-test.true)
 
 -- a run that is lent is the row
 run_is : (m : ℤ) (luma : List ℤ) (s width from j : ℕ) → from ≡ s + j * stride → from + width ≤ length luma
@@ -65,11 +64,10 @@ part-run-in-range-end c = search rules
 run-in-range-requires : tie.Need-run-in-range-requires invariant-loop decreases-loop
 run-in-range-requires c κs =
     let l = c.before in
-    let s = l.before.before in
-    (omega (arith, room l, rest-length l.before.loop.from s.args.luma.now), subst Ones (sym (to_z-of_z s.ranges.m)) s.requires.1)
+    omega (arith, room l, rest-length l.before.loop.from l.before.before.args.luma.now)
 
 add-from : tie.Need-overflow-add-from invariant-loop decreases-loop
-add-from c = let g = c.before.before.before.before.requires.0 in omega (arith, g.starts, g.high)
+add-from c = let g = c.before.before.before.before.requires in omega (arith, g.starts, g.high)
 
 add-j : tie.Need-overflow-add-j invariant-loop decreases-loop
 add-j c = omega arith

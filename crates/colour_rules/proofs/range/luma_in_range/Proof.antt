@@ -1,7 +1,7 @@
 -- `luma_in_range` meets its contract: the area that it tests holds what is needed. Assumes nothing.
 use borrow.Author.Rules.{rules}
-use mathlib.Core.Path.{sym, ◌∙◌, ap, subst}
-use Prim.Native.Nat.{ℕ, suc, ◌+◌, ◌*◌, ◌≤◌}
+use mathlib.Core.Path.{sym, ◌∙◌, subst}
+use Prim.Native.Nat.{ℕ, ◌+◌, ◌*◌, ◌≤◌}
 use native.Mathlib.Omega.{arith}
 use lib.IntN.{ℤ, pos, ◌+ℤ◌, ◌*ℤ◌}
 use lib.ListN.{get_or}
@@ -13,8 +13,6 @@ use Rattle.signed.specs.Range.{inside}
 use Rattle.signed.proofs.Bound.{sfits-abs}
 use Rattle.edge_line.specs.Every.{every}
 use Rattle.colour_terms.proofs.Most.{most-all}
-use Rattle.colour_samples.proofs.Digits.{top-is}
-use Rattle.colour_rules.specs.Area.{Ones}
 use Rattle.colour_rules.proofs.Bounds.{area, up_one, beside-one, up-most, beside-most}
 use Rattle.colour_rules.proofs.Reach.{cell}
 use Rattle.colour_rules.proofs.Whole.{whole}
@@ -49,13 +47,6 @@ module _ (a : tie.Start) where
   seven : SFits w32 (pos 8 *ℤ a.args.m +ℤ pos 7)
   seven = subst (λ z. SFits w32 (pos 8 *ℤ z +ℤ pos 7)) (sym a.pre.1) (sfits-abs w32 (pos (8 * M + 7)) (omega (arith, most-all _ a.pre.0)))
 
-  ones : Ones (pos 8 *ℤ a.args.m +ℤ pos 7)
-  ones = record {
-    digits = suc (suc (suc a.args.b.d));
-    few = omega (arith, most-all _ a.pre.0);
-    is = ap (λ z. pos 8 *ℤ z +ℤ pos 7) a.pre.1 ∙ ap pos (top-is a.args.b.d);
-  }
-
 up-of-requires : tie.Need-up-of-requires
 up-of-requires c κs = search rules
 
@@ -89,7 +80,7 @@ add-area-in-range-3 c = let a = s c.before.before.before.before in simp (to_z-of
 area-in-range-requires : tie.Need-area-in-range-requires
 area-in-range-requires c κs =
     let k = c.before.before.before.before in
-    simp (to_z-of_z, (s k).ranges.m, eight (s k), seven (s k)) (area _ _ (s k).requires.2 _ _ (up-low k) (beside-low k) (up-few k), ones (s k))
+    area _ _ (s k).requires.2 _ _ (up-low k) (beside-low k) (up-few k)
 
 returns : tie.Need-returns
 returns c =

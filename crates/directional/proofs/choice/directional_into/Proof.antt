@@ -5,7 +5,7 @@ use native.Mathlib.Omega.{arith}
 use mathlib.Core.Path.{◌∙◌}
 use mir.Facts.{to_z-of_z}
 use Rattle.directional.proofs.Cases.{down, across, in_one, in_two, in_three}
-use Rattle.directional.proofs.choice.directional_into.Proof.Passed.{s, in-fours, above_in, left_in, is_down, not-down, is-across, first, t, not-across, past-ninety, past-half}
+use Rattle.directional.proofs.choice.directional_into.Proof.Passed.{s, in-fours, samples, above_in, left_in, is_down, not-down, is-across, first, t, not-across, past-ninety, past-half}
 use Rattle.directional.proofs.choice.directional_into.Statement.{statement}
 use Rattle.directional.proofs.choice.directional_into.Tie as tie
 mod Passed
@@ -42,7 +42,7 @@ z2-into-requires c κs =
     let s = t e.before.before in
     simp (to_z-of_z, s.fits.m, s.fits.corner) (
       (in-fours d, past-ninety e, omega arith, omega (arith, s.pre.0.above-long), omega (arith, s.pre.0.left-long), s.pre.0.out-long),
-      (λ i h. s.pre.0.above_in i (omega arith), λ i h. s.pre.0.left_in i (omega arith), s.pre.0.corner-in, s.pre.1.0),
+      (above_in d s.args.bs (omega arith), left_in d s.args.bs (omega arith), (samples d).corner-in, s.pre.1.0),
     )
 
 z3-into-requires : tie.Need-z3-into-requires

@@ -40,14 +40,14 @@ chroma-sample-requires : tie.Need-chroma-sample-requires
 chroma-sample-requires c κs =
     let s = c.before.before in
     let i = s.args.i in
-    simp (to_z-of_z, s.ranges.g, s.ranges.f, e-back s i (omega arith), e-back s (i + 1) (omega arith))
-    (s.requires.1.0, s.requires.1.1, s.requires.0.1 i (omega arith), s.requires.0.1 (i + 1) (omega arith))
+    simp (to_z-of_z, s.ranges.g, s.ranges.f, s.ranges.m, e-back s i (omega arith), e-back s (i + 1) (omega arith))
+    ((s.requires.1.0, s.requires.1.1, s.requires.0.1 i (omega arith), s.requires.0.1 (i + 1) (omega arith)), s.requires.1.2)
 
 returns : tie.Need-returns
 returns c =
     let s = c.before.before.before in
     let i = s.args.i in
-    simp (to_z-of_z, s.ranges.g, s.ranges.f, e-back s i (omega arith), e-back s (i + 1) (omega arith)) at c.chroma-sample.ensures
+    simp (to_z-of_z, s.ranges.g, s.ranges.f, s.ranges.m, e-back s i (omega arith), e-back s (i + 1) (omega arith)) at c.chroma-sample.ensures
 
 pub chroma-at-spec : {M : Type 1} → statement M
 chroma-at-spec =

@@ -2,35 +2,34 @@
 use borrow.Author.Rules.{rules}
 use native.Mathlib.Omega.{arith}
 use mathlib.Core.Path.{◌≡◌, ◌∙◌}
-use mathlib.Core.Bool.{true}
-use Prim.Native.Nat.{ℕ, ◌<◌}
-use lib.IntN.{ℤ, pos, ◌+ℤ◌}
+use Prim.Native.Nat.{ℕ, ◌≤◌, ◌<◌}
+use lib.IntN.{ℤ, pos, nat_abs}
 use lib.ListN.{get_or, length-set}
 use mir.Facts.{to_z-of_z}
-use mir.Syntax.{w16}
+use mir.Syntax.{w32}
 use mir.Val.{to_z, of_z}
-use Rattle.signed.specs.Range.{inside}
+use Rattle.signed.proofs.Bound.{back-abs}
+use Rattle.signed.proofs.Range.{inside-abs}
 use Rattle.lists.specs.Block.{sample}
 use Rattle.lists.proofs.Block.{four-stores}
 use Rattle.paeth_rows.specs.Chosen.{chosen}
-use Rattle.paeth_rows.proofs.Laws.{near, small-fits}
 use Rattle.paeth_rows.proofs.row.quad_row.Statement.{statement}
 use Rattle.paeth_rows.proofs.row.quad_row.Tie as tie
 
--- how far an entry above lies from the corner, and its sample
+-- an entry above, and its sample
 module _ (s : tie.Start) (i : ℕ) (h : i < 4) where
-  abbrev x : ℤ
-  x = get_or s.args.xs.now i (pos 0)
+  abbrev top : ℤ
+  top = get_or s.args.above.now i (pos 0)
 
-  x-in : inside (pos 4095) (s.args.corner +ℤ x) ≡ true
-  x-in = s.pre.2 i h
+  top_small : nat_abs top ≤ 4095
+  top_small = inside-abs 4095 top (s.pre.2 i h)
 
-  x-back : to_z w16 (of_z w16 x) ≡ x
-  x-back = to_z-of_z {z = x} (small-fits x (omega (arith, near s.args.corner x s.pre.3.0 x-in)))
+  top_back : to_z w32 (of_z w32 top) ≡ top
+  top_back = back-abs w32 top (omega (arith, top_small))
 
   -- what the call gave is the sample that stands there
-  stands : sample (chosen (to_z w16 (of_z w16 x)) (to_z w16 (of_z w16 s.args.y)) (to_z w16 (of_z w16 s.args.corner))) ≡ sample (chosen x s.args.y s.args.corner)
-  stands = λ j. sample (chosen (x-back j) (to_z-of_z s.fits.y j) (to_z-of_z s.fits.corner j))
+  stands : sample (chosen (to_z w32 (of_z w32 s.args.l)) (to_z w32 (of_z w32 top)) (to_z w32 (of_z w32 s.args.corner))) ≡ sample (chosen s.args.l top s.args.corner)
+  stands = λ j. sample (chosen (to_z-of_z s.fits.l j) (top_back j) (to_z-of_z s.fits.corner j))
 
 shared-slice-copy-out-paeth-sample : tie.Need-shared-slice-copy-out-paeth-sample
 shared-slice-copy-out-paeth-sample c = search rules
@@ -38,7 +37,7 @@ shared-slice-copy-out-paeth-sample c = search rules
 paeth-sample-requires : tie.Need-paeth-sample-requires
 paeth-sample-requires c κs =
     let s = c.before.before in
-    simp (to_z-of_z, s.ranges.y, s.ranges.corner, x-back s 0 (omega arith)) (s.requires.3, x-in s 0 (omega arith))
+    simp (to_z-of_z, s.ranges.l, s.ranges.corner, top_back s 0 (omega arith)) (s.requires.3, top_small s 0 (omega arith), s.requires.4)
 
 shared-slice-copy-out-paeth-sample-2 : tie.Need-shared-slice-copy-out-paeth-sample-2
 shared-slice-copy-out-paeth-sample-2 c = search rules
@@ -46,7 +45,7 @@ shared-slice-copy-out-paeth-sample-2 c = search rules
 paeth-sample-requires-2 : tie.Need-paeth-sample-requires-2
 paeth-sample-requires-2 c κs =
     let s = c.before.before.before.before in
-    simp (to_z-of_z, s.ranges.y, s.ranges.corner, x-back s 1 (omega arith)) (s.requires.3, x-in s 1 (omega arith))
+    simp (to_z-of_z, s.ranges.l, s.ranges.corner, top_back s 1 (omega arith)) (s.requires.3, top_small s 1 (omega arith), s.requires.4)
 
 shared-slice-copy-out-paeth-sample-3 : tie.Need-shared-slice-copy-out-paeth-sample-3
 shared-slice-copy-out-paeth-sample-3 c = search rules
@@ -54,7 +53,7 @@ shared-slice-copy-out-paeth-sample-3 c = search rules
 paeth-sample-requires-3 : tie.Need-paeth-sample-requires-3
 paeth-sample-requires-3 c κs =
     let s = c.before.before.before.before.before.before in
-    simp (to_z-of_z, s.ranges.y, s.ranges.corner, x-back s 2 (omega arith)) (s.requires.3, x-in s 2 (omega arith))
+    simp (to_z-of_z, s.ranges.l, s.ranges.corner, top_back s 2 (omega arith)) (s.requires.3, top_small s 2 (omega arith), s.requires.4)
 
 shared-slice-copy-out-paeth-sample-4 : tie.Need-shared-slice-copy-out-paeth-sample-4
 shared-slice-copy-out-paeth-sample-4 c = search rules
@@ -62,7 +61,7 @@ shared-slice-copy-out-paeth-sample-4 c = search rules
 paeth-sample-requires-4 : tie.Need-paeth-sample-requires-4
 paeth-sample-requires-4 c κs =
     let s = c.before.before.before.before.before.before.before.before in
-    simp (to_z-of_z, s.ranges.y, s.ranges.corner, x-back s 3 (omega arith)) (s.requires.3, x-in s 3 (omega arith))
+    simp (to_z-of_z, s.ranges.l, s.ranges.corner, top_back s 3 (omega arith)) (s.requires.3, top_small s 3 (omega arith), s.requires.4)
 
 slice-write-row : tie.Need-slice-write-row
 slice-write-row c = search rules

@@ -1,43 +1,36 @@
--- `paeth_sample` meets its contract: the choice is in 0..4095, so the casts are exact. Assumes nothing.
-use borrow.Author.Rules.{rules}
+-- `paeth_sample` meets its contract: the choice is one of three small numbers, so the cast is exact. Assumes nothing.
 use native.Mathlib.Omega.{arith}
-use mathlib.Core.Bool.{true}
-use mathlib.Core.Path.{◌≡◌, sym, ◌∙◌, ap}
-use lib.IntN.{pos, nat_abs}
+use mathlib.Core.Path.{◌≡◌, ◌∙◌, ap}
+use Prim.Native.Nat.{◌≤◌}
+use lib.IntN.{nat_abs}
 use mir.Facts.{to_z-of_z}
-use mir.Syntax.{w16}
-use mir.Val.{to_z, of_z}
-use Rattle.signed.specs.Range.{inside}
-use Rattle.signed.proofs.Range.{inside-abs, inside-pos}
+use mir.Syntax.{w32}
 use Rattle.lists.specs.Block.{sample}
+use Rattle.signed.proofs.Bound.{back-abs, exact}
 use Rattle.paeth_rows.specs.Chosen.{chosen}
-use Rattle.paeth_rows.proofs.Laws.{inside-fits, chosen-inside}
+use Rattle.paeth_rows.proofs.Laws.{chosen-small}
 use Rattle.paeth_rows.proofs.value.paeth_sample.Statement.{statement}
 use Rattle.paeth_rows.proofs.value.paeth_sample.Tie as tie
 
 paeth-single-requires : tie.Need-paeth-single-requires
-paeth-single-requires c κs = simp (to_z-of_z, c.ranges.x, c.ranges.y, c.ranges.corner) c.requires
+paeth-single-requires c κs = simp (to_z-of_z, c.ranges.left, c.ranges.top, c.ranges.corner) c.requires
 
 module _ (c : tie.After-paeth-single) where
-  is : c.paeth-single.result ≡ chosen c.before.args.x c.before.args.y c.before.args.corner
-  is = simp (to_z-of_z, c.before.ranges.x, c.before.ranges.y, c.before.ranges.corner) at c.paeth-single.ensures
+  is : c.paeth-single.result ≡ chosen c.before.args.left c.before.args.top c.before.args.corner
+  is = simp (to_z-of_z, c.before.ranges.left, c.before.ranges.top, c.before.ranges.corner) at c.paeth-single.ensures
 
-  in-range : inside (pos 4095) c.paeth-single.result ≡ true
-  in-range = rw is (chosen-inside _ _ _ c.before.requires.0 c.before.requires.1)
-
-  whole : to_z w16 (of_z w16 c.paeth-single.result) ≡ pos (nat_abs c.paeth-single.result)
-  whole = to_z-of_z {z = c.paeth-single.result} (inside-fits _ in-range) ∙ inside-pos 4095 c.paeth-single.result in-range
-
-cast-result : tie.Need-overflow-cast-result
-cast-result c = rw (whole c) (tt, record { fits = omega (arith, inside-abs 4095 c.paeth-single.result (in-range c)) })
+  small : nat_abs c.paeth-single.result ≤ 4095
+  small = rw is (chosen-small 4095 _ _ _ c.before.requires.0 c.before.requires.1 c.before.requires.2)
 
 int-to-float-result : tie.Need-int-to-float-result
-int-to-float-result c = search rules
+int-to-float-result c =
+    let h = small c.before in
+    rw (back-abs w32 c.before.paeth-single.result (omega arith)) (exact c.before.paeth-single.result (omega arith))
 
 returns : tie.Need-returns
 returns c =
-    let p = c.before in
-    ap (λ z. sample (pos (nat_abs z))) (whole p) ∙ ap sample (sym (inside-pos 4095 p.paeth-single.result (in-range p)) ∙ is p)
+    let h = small c.before in
+    ap sample (back-abs w32 c.before.paeth-single.result (omega arith) ∙ is c.before)
 
 pub paeth-sample-spec : {M : Type 1} → statement M
-paeth-sample-spec = tie.close (tie.spec paeth-single-requires cast-result int-to-float-result returns)
+paeth-sample-spec = tie.close (tie.spec paeth-single-requires int-to-float-result returns)

@@ -6,9 +6,10 @@ use lib.IntN.{pos, nat_abs}
 use lib.ListN.{get_or}
 use Rattle.lists.specs.Block.{block}
 use Rattle.lists.proofs.Block.{block_same}
+use Rattle.direct_calls.proofs.Accepted.{size-most}
 use Rattle.smooth_steps.specs.Parts.{edge_at, weighed, Entries, Step}
 use Rattle.smooth_spec.specs.Smooth.{smooth_h_at}
-use Rattle.smooth.proofs.Ready.{above-entries, left-entries, first-half, end-there, end-in, end_step, scale-low, all-weights, place}
+use Rattle.smooth.proofs.Ready.{above-entries, left-entries, first-half, end-there, end-in, end_step, scale-low, weights-are, all-weights, place}
 use Rattle.smooth.proofs.block.smooth_h_into.Statement.{statement}
 use Rattle.smooth.proofs.block.smooth_h_into.Tie as tie
 
@@ -18,7 +19,7 @@ low c = scale-low c.before.before.args.bs c.before.before.requires.size c.scale_
 -- what both ways hand to their rows
 module _ (n : tie.After-natural) where
   abbrev w : tie.After-weights-of
-  w = n.before.before.before
+  w = n.before.before.before.before
 
   abbrev s : tie.Start
   s = w.before.before.before
@@ -45,6 +46,9 @@ scale-of-requires c κs = search rules
 weights-of-requires : tie.Need-weights-of-requires
 weights-of-requires c κs = low c
 
+reach-of-requires : tie.Need-reach-of-requires
+reach-of-requires c κs = low c.before
+
 log2-of-requires : tie.Need-log2-of-requires
 log2-of-requires c κs = search rules
 
@@ -53,12 +57,12 @@ mul-natural c = search rules
 
 shared-slice-copy-out-natural : tie.Need-shared-slice-copy-out-natural
 shared-slice-copy-out-natural c =
-    let s = c.before.before.before.before in
+    let s = c.before.before.before.before.before in
     end-there s.args.bs s.requires.size (above-entries s.requires)
 
 natural-requires : tie.Need-natural-requires
 natural-requires c κs =
-    let s = c.before.before.before.before.before in
+    let s = c.before.before.before.before.before.before in
     end-in s.args.bs s.requires.size (above-entries s.requires)
 
 slice-aggregate-quad-h-rows : tie.Need-slice-aggregate-quad-h-rows
@@ -70,13 +74,15 @@ quad-h-rows-requires c κs =
     let n = t.before in
     ((t.if1.true, half n, step n, (s n).requires.out-long), all-weights (B n) (s n).requires.size (w n).before.scale_of.ensures (w n).weights-of.ensures)
 
-slice-aggregate-lane-h-rows : tie.Need-slice-aggregate-lane-h-rows
-slice-aggregate-lane-h-rows c = search rules
+slice-aggregate-lined-h-rows : tie.Need-slice-aggregate-lined-h-rows
+slice-aggregate-lined-h-rows c = search rules
 
-lane-h-rows-requires : tie.Need-lane-h-rows-requires
-lane-h-rows-requires c κs =
-    let n = c.before.before.before in
-    (((s n).requires.size, half n, (step n).end, (s n).requires.out-long), all-weights (B n) (s n).requires.size (w n).before.scale_of.ensures (w n).weights-of.ensures)
+lined-h-rows-requires : tie.Need-lined-h-rows-requires
+lined-h-rows-requires c κs =
+    let n = c.before.before.before in (
+      (half n, step n, size-most (B n) (s n).requires.size, (s n).requires.out-long),
+      weights-are (B n) (s n).requires.size (w n).before.scale_of.ensures (w n).weights-of.ensures n.before.before.before.reach_of.ensures,
+    )
 
 same_length : tie.Need-same-length
 same_length c = search rules
@@ -88,7 +94,7 @@ same-length-2 : tie.Need-same-length-2
 same-length-2 c = search rules
 
 returns-2 : tie.Need-returns-2
-returns-2 c = let q = c.before.before in q.lane-h-rows.ensures ∙ same q.before.before.before.before
+returns-2 c = let q = c.before.before in q.lined-h-rows.ensures ∙ same q.before.before.before.before
 
 pub smooth-h-into-spec : {M : Type 1} → statement M
 smooth-h-into-spec =
@@ -96,14 +102,15 @@ smooth-h-into-spec =
     (tie.spec
     scale-of-requires
     weights-of-requires
+    reach-of-requires
     log2-of-requires
     mul-natural
     shared-slice-copy-out-natural
     natural-requires
     slice-aggregate-quad-h-rows
     quad-h-rows-requires
-    slice-aggregate-lane-h-rows
-    lane-h-rows-requires
+    slice-aggregate-lined-h-rows
+    lined-h-rows-requires
     same_length
     returns
     same-length-2

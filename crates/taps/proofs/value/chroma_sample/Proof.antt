@@ -1,45 +1,48 @@
--- `chroma_sample` meets its contract: the two taps' value is small, so that the cast is exact. Assumes nothing.
-use borrow.Author.Rules.{rules, sfits_of}
+-- `chroma_sample` meets its contract: what is clipped is small, so the cast is exact. Assumes nothing.
+use borrow.Author.Rules.{rules}
 use native.Mathlib.Omega.{arith}
 use mathlib.Core.Path.{◌≡◌, ◌∙◌, ap}
-use Prim.Native.Nat.{◌≤◌, ◌^◌}
+use Prim.Native.Nat.{◌≤◌}
 use lib.IntN.{nat_abs}
 use mir.Syntax.{w32}
 use mir.Facts.{to_z-of_z}
 use Rattle.lists.specs.Block.{sample}
-use Rattle.signed.proofs.Range.{inside-abs}
-use Rattle.signed.proofs.Bound.{b-abs, b-lit, b-add, b-mul, b-shr, exact, back}
-use Rattle.taps.specs.Interp.{taps2}
+use Rattle.signed.proofs.Bound.{back-abs, exact, back}
+use Rattle.taps.specs.Interp.{clip, taps2}
+use Rattle.taps.proofs.Laws.{clip-small}
 use Rattle.taps.proofs.value.chroma_sample.Statement.{statement}
 use Rattle.taps.proofs.value.chroma_sample.Tie as tie
 
 two-requires : tie.Need-two-requires
 two-requires c κs = search rules
 
-module _ (c : tie.After-two) where
+clipped-requires : tie.Need-clipped-requires
+clipped-requires c κs = search rules
+
+module _ (c : tie.After-clipped) where
   abbrev s : tie.Start
-  s = c.before
+  s = c.before.before
 
-  is : c.two.result ≡ taps2 s.args.g s.args.f s.args.a s.args.b
-  is = simp (to_z-of_z, s.fits.g, s.fits.f, s.fits.a, s.fits.b) at c.two.ensures
+  two_is : c.before.two.result ≡ taps2 s.args.g s.args.f s.args.a s.args.b
+  two_is = simp (to_z-of_z, s.fits.g, s.fits.f, s.fits.a, s.fits.b) at c.before.two.ensures
 
-  small : nat_abs c.two.result ≤ 2 ^ 24
-  unfolding taps2
-  small =
-      let e = s.pre in
-      let x = b-mul (b-abs {m = 32} {z = s.args.g} e.0) (b-abs {m = 4095} {z = s.args.a} (inside-abs 4095 s.args.a e.2)) in
-      let y = b-mul (b-abs {m = 32} {z = s.args.f} e.1) (b-abs {m = 4095} {z = s.args.b} (inside-abs 4095 s.args.b e.3)) in
-      rw is (omega (arith, (b-shr 32 (b-add (b-add x y) (b-lit 16))).most))
+  is : c.clipped.result ≡ clip s.args.m (taps2 s.args.g s.args.f s.args.a s.args.b)
+  is =
+      simp (back w32 {z = c.before.two.result} (record { sfits = c.before.two.type-inv }), to_z-of_z, s.fits.m) at c.clipped.ensures
+      ∙ ap (λ z. clip s.args.m z) two_is
+
+  small : nat_abs c.clipped.result ≤ 4095
+  small = rw is (clip-small 4095 s.args.m _ s.pre.1)
 
 int-to-float-result : tie.Need-int-to-float-result
 int-to-float-result c =
-    let t = c.before in
-    rw (back w32 {z = t.two.result} (sfits_of t.two.type-inv)) (exact t.two.result (small t))
+    let h = small c.before in
+    rw (back-abs w32 c.before.clipped.result (omega arith)) (exact c.before.clipped.result (omega arith))
 
 returns : tie.Need-returns
 returns c =
-    let t = c.before in
-    ap sample (back w32 {z = t.two.result} (sfits_of t.two.type-inv) ∙ is t)
+    let h = small c.before in
+    ap sample (back-abs w32 c.before.clipped.result (omega arith) ∙ is c.before)
 
 pub chroma-sample-spec : {M : Type 1} → statement M
-chroma-sample-spec = tie.close (tie.spec two-requires int-to-float-result returns)
+chroma-sample-spec = tie.close (tie.spec two-requires clipped-requires int-to-float-result returns)

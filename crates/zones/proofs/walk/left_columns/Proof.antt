@@ -1,38 +1,58 @@
--- `left_columns` meets its contract: each column of the walk is written, and where the walk is left no row reaches the column. Assumes nothing.
-use Prim.Native.Nat.{ℕ, ◌+◌, ◌*◌}
+-- `left_columns` meets its contract: each column of the walk is written, and where the walk is left no row of the strip is still in its left part.
+-- Assumes nothing.
+use Prim.Native.Nat.{ℕ, ◌≤◌, ◌+◌, ◌*◌}
 use native.Mathlib.Omega.{arith}
-use mathlib.Core.Path.{◌≡◌, refl, ◌∙◌, ap}
+use mathlib.Core.Path.{◌≡◌, refl, sym, ◌∙◌, ap}
+use lib.ListN.{get_or}
+use lib.IntN.{pos}
+use mir.Syntax.{w32}
+use mir.Val.{to_z, of_z}
 use mir.Facts.{to_z-of_z}
-use borrow.Rule.Slice.PartMut.{mid_len}
-use Rattle.zones.specs.Parts.{ByColumns}
-use Rattle.zones.proofs.Fewer.{paired-fewer}
-use Rattle.zones.proofs.walk.left_columns.Proof.Column.{Inv-loop, μ-loop, Inv-walk, μ-walk, written, no_more, k, s, from, reached, room, reach}
-use Rattle.zones.proofs.walk.left_columns.Proof.Lent as lent
-use Rattle.zones.proofs.walk.left_columns.Proof.Next.{one_more}
+use Rattle.lists.specs.Block.{sample}
+use Rattle.lists.proofs.Fill.{filled_none}
+use Rattle.lists.proofs.Block.{filled_row, part_length}
+use Rattle.taps.specs.Interp.{between}
+use Rattle.zones.proofs.walk.left_columns.Proof.Column.{at, Inv-loop, μ-loop, Inv-walk, μ-walk, written, k, s, reached, enough, room, reach, next, place}
 use Rattle.zones.proofs.walk.left_columns.Proof.Passed as passed
 use Rattle.zones.proofs.walk.left_columns.Statement.{statement}
 use Rattle.zones.proofs.walk.left_columns.Tie as tie
 mod Column
-mod Lent
-mod Next
 mod Passed
 
 add-end : tie.Need-overflow-add-end Inv-loop μ-loop Inv-walk μ-walk
 add-end c = omega arith
 
-walk-holds : tie.Need-walk-init Inv-loop μ-loop Inv-walk μ-walk
-unfolding ByColumns
-walk-holds c =
-    (omega arith, omega arith, omega arith, omega arith, omega arith, omega arith, refl, λ j r l m n. absurd (omega arith))
+mul-q : tie.Need-overflow-mul-q Inv-loop μ-loop Inv-walk μ-walk
+mul-q c = omega arith
 
-line-requires : tie.Need-line-requires Inv-loop μ-loop Inv-walk μ-walk
-line-requires c κs =
+walk-holds : tie.Need-walk-init Inv-loop μ-loop Inv-walk μ-walk
+walk-holds c = (omega arith, omega arith, omega arith, omega arith, refl, sym (filled_none _ _), omega arith)
+
+add-e : tie.Need-overflow-add-e Inv-loop μ-loop Inv-walk μ-walk
+add-e c = omega arith
+
+sub-q : tie.Need-overflow-sub-q Inv-loop μ-loop Inv-walk μ-walk
+sub-q c = enough c
+
+mul-between : tie.Need-overflow-mul-between Inv-loop μ-loop Inv-walk μ-walk
+mul-between c = omega (arith, room c)
+
+sub-between : tie.Need-overflow-sub-between Inv-loop μ-loop Inv-walk μ-walk
+sub-between c = omega arith
+
+part-between-start : tie.Need-slice-bounds-between-start Inv-loop μ-loop Inv-walk μ-walk
+part-between-start c = omega arith
+
+part-between-end : tie.Need-slice-bounds-between-end Inv-loop μ-loop Inv-walk μ-walk
+part-between-end c = room c
+
+between-requires : tie.Need-between-requires Inv-loop μ-loop Inv-walk μ-walk
+between-requires c κs =
     let l = c.before in
     let s = s l in
-    let n = mid_len ((k l).walk.o + from l) ((k l).walk.o + s.args.h) (k l).walk.cols (room l) in
-    let r = reach l _ refl in
+    let n = part_length (k l).walk.o 4 (k l).walk.strip (room l) in
     simp (to_z-of_z, s.fits.m, n)
-    ((omega (arith, r, s.pre.1.1.0.0), (λ i h. s.pre.1.1.0.1 i (omega (arith, r))), paired-fewer s.args.lum (s.args.h + 4) _ s.args.left.now s.args.near.now s.args.far.now (omega (arith, r)) s.pre.1.1.1), (s.pre.1.0.3, s.pre.1.0.2))
+    ((omega (arith, reach l, s.pre.1.2.0), λ i h. s.pre.1.2.1 i (omega (arith, reach l))), (s.pre.1.1, s.pre.1.0))
 
 add-c : tie.Need-overflow-add-c Inv-loop μ-loop Inv-walk μ-walk
 add-c c = omega arith
@@ -44,36 +64,35 @@ walk-again : tie.Need-walk-preserved Inv-loop μ-loop Inv-walk μ-walk
 walk-again c =
     let l = c.before.before.before.before in
     let k = k l in
-    let s = s l in (
+    let s = s l in
+    let M = to_z w32 (of_z w32 s.args.m) in (
       omega arith,
       omega arith,
+      next l,
       omega arith,
-      omega arith,
-      omega arith,
+      c.before.strip.given.1 ∙ k.walk.inv.4,
+      filled_row 4 k.walk.c k.walk.o (at s.args.lum M s.args.dy s.args.r0 s.args.left.now) _ _ _ _
+          k.walk.inv.1 (room l) k.walk.inv.5 c.before.before.between.ensures
+          (λ j h. ap (λ z. sample (between s.args.lum M (λ t. get_or s.args.left.now t (pos 0)) (z + 64 * j))) (place l)),
       reached l,
-      c.before.cols.given.1 ∙ k.walk.inv.6,
-      one_more l _ c.before.before.line.ensures,
     )
 
 same_length : tie.Need-same-length Inv-loop μ-loop Inv-walk μ-walk
-same_length c = c.before.walk.invariant.6
+same_length c = c.before.walk.invariant.4
 
 returns : tie.Need-returns Inv-loop μ-loop Inv-walk μ-walk
-unfolding ByColumns
-returns c =
-    let k = c.before in
-    let s = k.before.before in
-    ((omega arith, omega arith, λ h. omega arith), λ j r l m n. written k j r (omega arith) m n)
+returns c = (omega arith, written c.before)
 
 same-length-2 : tie.Need-same-length-2 Inv-loop μ-loop Inv-walk μ-walk
-same-length-2 c = c.before.before.before.before.walk.invariant.6
+same-length-2 c = c.before.before.before.before.walk.invariant.4
 
 returns-2 : tie.Need-returns-2 Inv-loop μ-loop Inv-walk μ-walk
 returns-2 c =
     let k = c.before.before.before.before in
     let s = k.before.before in
-    let y : s.args.h ≡ c.before.before.loop.y + 1 = omega arith in
-    ((omega arith, omega arith, λ h. absurd (omega arith)), no_more k (omega (arith, ap (λ (x : ℕ). x * s.args.dx) y)))
+    let y : s.args.r0 + 4 ≡ c.before.before.loop.y + 1 = omega arith in
+    let past : (s.args.r0 + 4) * s.args.dx ≤ 64 * (k.walk.c + 1) = omega (arith, ap (λ (x : ℕ). x * s.args.dx) y) in
+    (omega (arith, past), written k)
 
 pub left-columns-spec : {M : Type 1} → statement M
 left-columns-spec =
@@ -84,6 +103,7 @@ left-columns-spec =
     Inv-walk
     μ-walk
     add-end
+    mul-q
     walk-holds
     passed.loop-holds
     passed.add-loop
@@ -93,19 +113,13 @@ left-columns-spec =
     passed.add-y
     passed.loop-less
     passed.loop-again
-    lent.mul-from
-    lent.add-q
-    lent.mul-q
-    lent.add-q-2
-    lent.mul-q-2
-    lent.sub-q
-    lent.add-s
-    lent.add-e
-    lent.mul-line
-    lent.sub-line
-    lent.part-line-start
-    lent.part-line-end
-    line-requires
+    add-e
+    sub-q
+    mul-between
+    sub-between
+    part-between-start
+    part-between-end
+    between-requires
     add-c
     walk-less
     walk-again

@@ -1,127 +1,133 @@
--- `z2_by` meets its contract: each place is from the edge above where that reaches it, and from the left edge where it does not. Assumes nothing.
-use borrow.Author.Rules.{rules}
-use Prim.Native.Nat.{ℕ, ◌<◌, ◌+◌, ◌-◌, ◌*◌}
+-- `z2_by` meets its contract. The invariant: the first i strips are written, r0 is 4 i and o is 4 i w. Assumes nothing.
+use Prim.Native.Nat.{ℕ, ◌≤◌, ◌+◌, ◌-◌, ◌*◌}
+use native.Mathlib.Nat.{mul-le-mul_right}
 use native.Mathlib.Omega.{arith}
-use mathlib.Core.Path.{◌≡◌, refl, ◌∙◌}
-use mathlib.Core.Bool.{Bool, true, false, cond}
+use mathlib.Core.Path.{◌≡◌, refl, sym, ◌∙◌, ap}
+use mathlib.Core.Bool.{Bool}
 use mathlib.Core.List.{List}
-use lib.Dec.{leb}
-use lib.ListN.{get_or}
+use lib.ListN.{length}
 use lib.IntN.{ℤ}
-use lib.Ieee.{Float, nan}
+use lib.Ieee.{Float}
 use mir.Syntax.{w32}
 use mir.Val.{to_z, of_z}
 use mir.Facts.{to_z-of_z}
-use borrow.Author.Tests.{leb-false}
-use Rattle.lists.specs.Fill.{tab}
-use Rattle.lists.specs.Block.{rows, sample}
-use Rattle.lists.proofs.Fill.{tab-same}
-use Rattle.lists.proofs.Block.{rows_same}
-use Rattle.taps.proofs.Samples.{edge-sample}
-use Rattle.zone_rows.specs.Listed.{listed}
-use Rattle.zone_spec.specs.Either.{back, either}
-use Rattle.zones.specs.Parts.{ByRows}
+use Rattle.lists.specs.Fill.{filled}
+use Rattle.lists.specs.Block.{rows, sample, block}
+use Rattle.lists.proofs.Fill.{filled_none}
+use Rattle.lists.proofs.Block.{filled-rows, part_length}
+use Rattle.zone_spec.specs.Either.{either}
 use Rattle.zones.proofs.z2.z2_by.Statement.{statement}
 use Rattle.zones.proofs.z2.z2_by.Tie as tie
 
--- what stands in the rows, over a left part that stands
-module _ (lum : Bool) (m : ℤ) (dx dy w h : ℕ) (top side : List ℤ) (out : List Float) where
-  abbrev row : ℕ → ℕ → Float
-  row r c = cond (leb ((r + 1) * dx) (64 * (c + 1))) (sample (listed lum m top (64 * (c + 1) - (r + 1) * dx))) (get_or out (r * w + c) nan)
+abbrev at : Bool → ℤ → ℕ → ℕ → List ℤ → List ℤ → ℕ → ℕ → Float
+at lum m dx dy top left r c = sample (either lum m dx dy top left r c)
 
-  stands : ByRows dx w h w (λ r c. sample (back lum m dy side c r)) out → (r c : ℕ) → r < h → c < w → row r c ≡ sample (either lum m dx dy top side r c)
-  unfolding either ByRows
-  stands left r c p q = go (leb ((r + 1) * dx) (64 * (c + 1))) refl
-    where
-      go : (t : Bool) → leb ((r + 1) * dx) (64 * (c + 1)) ≡ t
-          → cond t (sample (listed lum m top (64 * (c + 1) - (r + 1) * dx))) (get_or out (r * w + c) nan) ≡ sample (cond t (back lum m dx top r c) (back lum m dy side c r))
-      go true t = refl
-      go false t = left r c p q (leb-false _ _ t)
+abbrev invariant-loop : tie.invariant-loop
+invariant-loop w n lum filters dx dy m top left strip₀ out₀ r0₀ o₀ i₀ strip out r0 o i =
+    (i ≤ n) × (r0 ≡ 4 * i) × (o ≡ 4 * i * w) × (length strip ≡ length strip₀) × (length out ≡ length out₀) × (out ≡ filled o (rows w (at lum (to_z w32 m) dx dy top left)) out₀)
 
-  whole : ByRows dx w h w (λ r c. sample (back lum m dy side c r)) out → (M : ℤ) → m ≡ M → (n k : ℕ) → n ≡ h * w → k ≡ h * w
-      → tab n (rows w row) ≡ tab k (rows w (λ r c. sample (either lum M dx dy top side r c)))
-  whole left M same n k e l =
-      tab-same n _ _ (λ i p. rows_same w h row _ (stands left) i (omega (arith, e)))
-      ∙ (λ j. tab (long j) (rows w (λ r c. sample (either lum (same j) dx dy top side r c))))
-    where
-      long : n ≡ k
-      long = omega arith
+abbrev decreases-loop : tie.decreases-loop
+decreases-loop w n lum filters dx dy m top left strip₀ out₀ r0₀ o₀ i₀ strip out r0 o i = n - i
 
-module _ (v : tie.After-left-part) where
-  abbrev s : tie.Start
-  s = v.before.before.before.before.before.before.before.before.before.before.before.before
+module _ (c : tie.In-loop invariant-loop decreases-loop) where
+  abbrev s : tie.Start invariant-loop decreases-loop
+  s = c.before.before.before.before
 
-add-paired : tie.Need-overflow-add-paired
-add-paired c = search rules
+  -- the strip lies in the output
+  room : c.before.loop.o + 4 * s.args.w ≤ length c.before.loop.out
+  room = omega (arith, mul-le-mul_right s.args.w c.loop-test.true)
 
-paired-requires : tie.Need-paired-requires
-paired-requires c κs =
-    let s = c.before.before.before.before in
-    let side = s.requires.1.5 in
-    (omega (arith, side.0), (λ i l. edge-sample s.args.m s.requires.1.2 (s.args.h + 7) s.args.side.now side.1 i (omega arith)), omega arith, omega arith)
+loop-holds : tie.Need-loop-init invariant-loop decreases-loop
+loop-holds c = (omega arith, omega arith, omega arith, refl, refl, sym (filled_none _ _))
 
-left-part-requires : tie.Need-left-part-requires
-left-part-requires c κs =
-    let u = c.before.before.before.before.before.before in
-    let s = u.before.before.before.before.before in
-    let side = s.requires.1.5 in
-    simp (to_z-of_z, s.ranges.m) (
-      (s.requires.0.0, s.requires.0.1, s.requires.0.2, s.requires.0.3, s.requires.0.4, s.requires.0.5, s.requires.0.6, s.requires.0.7, s.requires.0.8),
-      (s.requires.1.2, s.requires.1.3, (omega (arith, side.0), λ i l. side.1 i (omega arith)), u.paired.ensures),
+mul-e : tie.Need-overflow-mul-e invariant-loop decreases-loop
+mul-e c = omega arith
+
+add-e : tie.Need-overflow-add-e invariant-loop decreases-loop
+add-e c = omega (arith, room c)
+
+mul-z2-strip : tie.Need-overflow-mul-z2-strip invariant-loop decreases-loop
+mul-z2-strip c = omega (arith, room c.before)
+
+sub-z2-strip : tie.Need-overflow-sub-z2-strip invariant-loop decreases-loop
+sub-z2-strip c = omega arith
+
+part-z2-strip-start : tie.Need-slice-bounds-z2-strip-start invariant-loop decreases-loop
+part-z2-strip-start c = omega arith
+
+part-z2-strip-end : tie.Need-slice-bounds-z2-strip-end invariant-loop decreases-loop
+part-z2-strip-end c = omega (arith, room c.before)
+
+z2-strip-requires : tie.Need-z2-strip-requires invariant-loop decreases-loop
+z2-strip-requires c κs =
+    let k = c.before.before in
+    let s = s k in
+    let l = part_length k.before.loop.o (4 * s.args.w) k.before.loop.out (room k) in
+    simp (to_z-of_z, s.fits.m, l) (
+      (s.pre.0.0, omega arith, s.pre.0.2, s.pre.0.3, s.pre.0.4, s.pre.0.5, omega arith, refl),
+      (s.pre.1.0, s.pre.0.8, s.pre.1.1, (omega (arith, s.pre.1.2.0), λ i h. s.pre.1.2.1 i (omega arith))),
     )
 
-add-paired-2 : tie.Need-overflow-add-paired-2
-add-paired-2 c = search rules
+add-r0 : tie.Need-overflow-add-r0 invariant-loop decreases-loop
+add-r0 c = omega arith
 
-paired-requires-2 : tie.Need-paired-requires-2
-paired-requires-2 c κs =
-    let s = s c.before.before.before.before.before.before in
-    let top = s.pre.1.4 in
-    (omega (arith, top.0), (λ i l. edge-sample s.args.m s.pre.1.2 (s.args.w + 7) s.args.top.now top.1 i (omega arith)), omega arith, omega arith)
+add-i : tie.Need-overflow-add-i invariant-loop decreases-loop
+add-i c = omega arith
 
-split-rows-requires : tie.Need-split-rows-requires
-split-rows-requires c κs =
-    let u = c.before.before.before.before.before in
-    let s = s u.before.before.before.before.before.before.before in
-    let top = s.pre.1.4 in
-    simp (to_z-of_z, s.fits.m) (
-      (s.pre.0.0, s.pre.0.2, s.pre.0.3, s.pre.0.4, omega arith),
-      (s.pre.1.2, s.pre.1.3, (omega (arith, top.0), λ i l. top.1 i (omega arith)), u.paired2.ensures),
+loop-less : tie.Need-loop-smaller invariant-loop decreases-loop
+loop-less c = omega arith
+
+loop-again : tie.Need-loop-preserved invariant-loop decreases-loop
+loop-again c =
+    let u = c.before.before.before.before in
+    let i = u.before.before.before in
+    let k = i.before in
+    let s = s i in
+    let M = to_z w32 (of_z w32 s.args.m) in (
+      omega arith,
+      omega arith,
+      omega arith,
+      omega arith,
+      omega arith,
+      filled-rows s.args.w 4 (4 * k.loop.i) k.loop.o (k.loop.o + 4 * s.args.w) (at s.args.lum M s.args.dx s.args.dy s.args.top.now s.args.left.now) _ _ _ _
+          k.loop.invariant.2 refl (room i) k.loop.invariant.5 u.z2-strip.ensures
+          (λ j h p q. ap (λ r. at s.args.lum M s.args.dx s.args.dy s.args.top.now s.args.left.now (r + j) h) k.loop.invariant.1),
     )
 
-same_length : tie.Need-same-length
-same_length c = search rules
+same_length : tie.Need-same-length invariant-loop decreases-loop
+same_length c = omega arith
 
-same-length-2 : tie.Need-same-length-2
-same-length-2 c = search rules
+same-length-2 : tie.Need-same-length-2 invariant-loop decreases-loop
+same-length-2 c = omega arith
 
-same-length-3 : tie.Need-same-length-3
-same-length-3 c = search rules
-
-same-length-4 : tie.Need-same-length-4
-same-length-4 c = search rules
-
-returns : tie.Need-returns
+returns : tie.Need-returns invariant-loop decreases-loop
+unfolding block
 returns c =
-    let u = c.before.before in
-    let v = u.before.before.before.before.before.before.before.before.before.before.before.before.before in
-    let s = s v in
-    u.split_rows.ensures
-    ∙ whole s.args.lum (to_z w32 (of_z w32 s.args.m)) s.args.dx s.args.dy s.args.w s.args.h s.args.top.now s.args.side.now _ v.left-part.ensures
-    s.args.m (to_z-of_z s.fits.m) _ _ (split-rows-requires u.before u.split_rows.lifetimes).0.4 s.pre.0.8
+    let k = c.before in
+    let s = k.before.before.before in
+    let i : k.loop.i ≡ s.args.n = omega arith in
+    let o : k.loop.o ≡ 4 * s.args.n * s.args.w = k.loop.invariant.2 ∙ ap (λ x. 4 * x * s.args.w) i in
+    k.loop.invariant.5
+    ∙ rw o (λ j. filled (4 * s.args.n * s.args.w) (rows s.args.w (at s.args.lum (to_z-of_z s.ranges.m j) s.args.dx s.args.dy s.args.top.now s.args.left.now)) s.args.out.now)
 
 pub z2-by-spec : {M : Type 1} → statement M
 z2-by-spec =
     tie.close
     (tie.spec
-    add-paired
-    paired-requires
-    left-part-requires
-    add-paired-2
-    paired-requires-2
-    split-rows-requires
+    invariant-loop
+    decreases-loop
+    loop-holds
+    mul-e
+    add-e
+    mul-z2-strip
+    sub-z2-strip
+    part-z2-strip-start
+    part-z2-strip-end
+    z2-strip-requires
+    add-r0
+    add-i
+    loop-less
+    loop-again
     same_length
     same-length-2
-    same-length-3
-    same-length-4
     returns)

@@ -1,33 +1,36 @@
--- What `paeth_single` has worked out: the sum of x and y, and the three distances. Assumes nothing.
+-- What `paeth_single` has worked out: x, y, their sum, and the three distances. Assumes nothing.
+use native.Mathlib.Omega.{arith}
 use mathlib.Core.Bool.{Bool, cond}
-use mathlib.Core.Path.{◌≡◌, ◌∙◌}
+use mathlib.Core.Path.{◌≡◌, ◌∙◌, ap}
 use lib.Dec.{leb}
 use mir.Facts.{to_z-of_z}
-use mir.Syntax.{w16}
+use mir.Syntax.{w32}
 use mir.Val.{SFits, to_z, of_z}
-use lib.IntN.{ℤ, pos, nat_abs, neg_ℤ, ◌+ℤ◌}
+use lib.IntN.{ℤ, pos, nat_abs, neg_ℤ, ◌+ℤ◌, ◌-ℤ◌}
 use Prim.Native.Nat.{◌≤◌}
-use Rattle.paeth_rows.proofs.Laws.{near, sum-small, small-fits}
+use Rattle.signed.proofs.Bound.{abs-add, abs-sub, sfits-abs}
+use Rattle.paeth_rows.proofs.Laws.{less_none}
 use Rattle.paeth_rows.proofs.value.paeth_single.Tie as tie
 
+-- x, y and their sum
 module _ (c : tie.Start) where
   abbrev pub x : ℤ
-  x = c.args.x
+  x = c.args.top -ℤ c.args.corner
 
   abbrev pub y : ℤ
-  y = c.args.y
+  y = c.args.left -ℤ c.args.corner
 
-  pub x-small : nat_abs x ≤ 4095
-  x-small = near c.args.corner x c.requires.0.0 c.requires.1
+  pub x_fits : SFits w32 x
+  x_fits = sfits-abs w32 x (omega (arith, abs-sub c.args.top c.args.corner))
 
-  pub y-small : nat_abs y ≤ 4095
-  y-small = near c.args.corner y c.requires.0.0 c.requires.0.1
+  pub y-fits : SFits w32 y
+  y-fits = sfits-abs w32 y (omega (arith, abs-sub c.args.left c.args.corner))
 
-  pub sum-most : nat_abs (x +ℤ y) ≤ 8190
-  sum-most = sum-small x y x-small y-small
+  pub sum-small : nat_abs (x +ℤ y) ≤ 16380
+  sum-small = omega (arith, abs-add x y, abs-sub c.args.top c.args.corner, abs-sub c.args.left c.args.corner)
 
-  pub sum_fits : SFits w16 (x +ℤ y)
-  sum_fits = small-fits (x +ℤ y) sum-most
+  pub sum_fits : SFits w32 (x +ℤ y)
+  sum_fits = sfits-abs w32 (x +ℤ y) (omega (arith, sum-small))
 
   -- which is nearer, and the choices
   abbrev pub left-top : Bool
@@ -46,20 +49,21 @@ module _ (c : tie.Start) where
   nearest-is = cond left-corner y other-is
 
 -- the three distances, as the tests read them
-pub to-left : (k : tie.After-nearness) → to_z w16 (of_z w16 k.nearness.result) ≡ neg_ℤ (pos (nat_abs (x k.before)))
+pub to-left : (k : tie.After-nearness) → to_z w32 (of_z w32 k.nearness.result) ≡ neg_ℤ (pos (nat_abs (x k.before)))
 to-left k =
     let c = k.before in
     to_z-of_z {z = k.nearness.result} (record { sfits = k.nearness.type-inv })
-    ∙ simp (to_z-of_z, c.ranges.x) at k.nearness.ensures
+    ∙ simp (to_z-of_z, c.ranges.top, c.ranges.corner) at k.nearness.ensures
 
-pub to-top : (k : tie.After-nearness2) → to_z w16 (of_z w16 k.nearness2.result) ≡ neg_ℤ (pos (nat_abs (y k.before.before)))
+pub to-top : (k : tie.After-nearness2) → to_z w32 (of_z w32 k.nearness2.result) ≡ neg_ℤ (pos (nat_abs (y k.before.before)))
 to-top k =
     let c = k.before.before in
     to_z-of_z {z = k.nearness2.result} (record { sfits = k.nearness2.type-inv })
-    ∙ simp (to_z-of_z, c.ranges.y) at k.nearness2.ensures
+    ∙ simp (to_z-of_z, c.ranges.left, c.ranges.corner) at k.nearness2.ensures
 
-pub to-corner : (k : tie.After-nearness3) → to_z w16 (of_z w16 k.nearness3.result) ≡ neg_ℤ (pos (nat_abs (x k.before.before.before +ℤ y k.before.before.before)))
+pub to-corner : (k : tie.After-nearness3) → to_z w32 (of_z w32 k.nearness3.result) ≡ neg_ℤ (pos (nat_abs (x k.before.before.before +ℤ y k.before.before.before)))
 to-corner k =
     let c = k.before.before.before in
     to_z-of_z {z = k.nearness3.result} (record { sfits = k.nearness3.type-inv })
-    ∙ simp (to_z-of_z, c.ranges.x, c.ranges.y, sum_fits c) at k.nearness3.ensures
+    ∙ simp (to_z-of_z, c.ranges.left, c.ranges.top, c.ranges.corner, x_fits c, y-fits c, sum_fits c) at k.nearness3.ensures
+    ∙ ap (λ z. neg_ℤ (pos (nat_abs z))) (less_none (x c +ℤ y c))

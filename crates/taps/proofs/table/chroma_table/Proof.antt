@@ -1,0 +1,12 @@
+-- `chroma_table` meets its contract: the code's table is the definition's. Assumes nothing.
+use mathlib.Core.Path.{refl}
+use Rattle.lists.specs.Fill.{tab}
+use Rattle.taps.proofs.table.chroma_table.Statement.{statement}
+use Rattle.taps.proofs.table.chroma_table.Tie as tie
+
+returns : tie.Need-returns
+unfolding tab
+returns c = refl
+
+pub chroma-table-spec : {M : Type 1} → statement M
+chroma-table-spec = tie.close (tie.spec returns)

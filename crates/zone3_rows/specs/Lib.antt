@@ -1,2 +1,0 @@
--- What a block holds after four of its columns are written: plumbing.
-pub mod Turned
