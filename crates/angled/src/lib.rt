@@ -1,4 +1,6 @@
 // The zones as a direction is set, each with its edges filtered (document 01, Directions).
+#![tactic(auto)]
+
 mod ready;
 pub mod zone1;
 pub mod zone2;

@@ -3,7 +3,7 @@
 ghost use Rattle.std.specs.Prelude.{◌≡◌};
 ghost use Rattle.block_image.specs.Image.{plan_format, tower_format};
 
-#[derive(Drop)]
+#[derive(Clone, Copy)]
 pub struct Format {
     pub rows: usize,
     pub words: usize,

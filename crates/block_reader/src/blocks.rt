@@ -47,7 +47,7 @@ fn block_answer(f: Format, bytes: &[u8], o: usize, k: usize, last: bool, used: u
 }
 
 // What the tests answer, and how many rows there are where they answer done.
-#[derive(Drop)]
+#[derive(Clone, Copy)]
 pub struct Tested {
     pub answer: Answer,
     pub rows: usize,

@@ -1,5 +1,7 @@
 // A plan's rows, read from blocks of 512 bytes (document 02, requests (iv) and (v)). The calls take any input; read_blocks serves
 // any format that fits.
+#![tactic(auto)]
+
 mod blocks;
 pub mod read;
 mod take;

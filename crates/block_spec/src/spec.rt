@@ -1,5 +1,5 @@
 // Where a block stands, which of its neighbours are there, and how many of their samples: `IntraRefSpec` of intrapred.rs, with a job's words.
-#[derive(Drop)]
+#[derive(Clone, Copy)]
 pub struct IntraRefSpec {
     pub x: u16,
     pub y: u16,

@@ -1,5 +1,7 @@
 // A plan's rows, written as blocks of 512 bytes (document 02, requests (iv) and (v)). The calls take any input; write_blocks serves any
 // format that fits.
+#![tactic(auto)]
+
 mod make;
 mod put;
 pub mod write;

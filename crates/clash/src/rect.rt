@@ -4,7 +4,7 @@ ghost use Rattle.reorder.specs.Rect.{meet_b};
 ghost use Rattle.clash.specs.Rects.{rect_of, Small};
 
 // w columns from x on, h rows from y on.
-#[derive(Drop)]
+#[derive(Clone, Copy)]
 pub struct Rect {
     pub x: usize,
     pub y: usize,

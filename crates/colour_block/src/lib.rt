@@ -1,5 +1,7 @@
 // Colour prediction, `predict_block` of mhccp.rs (document 01, Colour parameters). The public call takes any input, and tests the refusals 2, 10, 11, 12,
 // 9, 13 in that order.
+#![tactic(auto)]
+
 pub mod block;
 
 ghost use Rattle.colour_block.specs.Predicted.{block_from, PredictedBlock};

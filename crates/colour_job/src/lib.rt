@@ -1,5 +1,7 @@
 // A colour job over a luma plane and a chroma plane (document 02, request (v)): its samples are tested, those that are used are read into two windows,
 // and the block that their parameters predict is written into the chroma plane.
+#![tactic(auto)]
+
 ghost use Rattle.std.specs.Prelude.{◌≡◌, true, ◌&&◌, ◌*◌, ◌≤◌, pos, length};
 ghost use Rattle.numbers.specs.Depth.{bits_of, is_depth, most};
 ghost use Rattle.lists.specs.Block.{sample};

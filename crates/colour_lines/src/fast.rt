@@ -8,7 +8,7 @@ use colour_samples::nine::Nine;
 use colour_samples::sample::Terms;
 
 // Sums over at most 256 samples of the products of own term o, square s and chroma y, of each by itself, and how many samples they are, n.
-#[derive(Drop)]
+#[derive(Clone, Copy)]
 pub struct LineSums {
     pub oo: u32,
     pub os: u32,
@@ -67,7 +67,7 @@ impl LineSums {
 }
 
 // The same sums over many lines.
-#[derive(Drop)]
+#[derive(Clone, Copy)]
 pub struct LongSums {
     pub oo: u64,
     pub os: u64,

@@ -8,7 +8,7 @@ use colour_samples::sample::DepthTerms;
 use colour_samples::totals::Totals;
 
 // Lines of places: the centre of the first place, how many lines and how far apart, how many places in each and how far apart.
-#[derive(Drop)]
+#[derive(Clone, Copy)]
 pub struct Lines {
     pub at: usize,
     pub lines: usize,

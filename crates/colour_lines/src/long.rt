@@ -15,7 +15,7 @@ use colour_samples::seen::Seen;
 use colour_samples::totals::Totals;
 
 // What the places so far have: the digits of their values, and their sums.
-#[derive(Drop)]
+#[derive(Clone, Copy)]
 pub struct LongTotals {
     pub seen: Seen,
     pub sums: LongSums,

@@ -1,4 +1,6 @@
 // What the program `still` prints of a colour still, part by part.
+#![tactic(auto)]
+
 pub mod map;
 pub mod runs;
 pub mod table;

@@ -1,5 +1,7 @@
 // Colour parameters from a reference window (document 01, Colour parameters): `derive_params` takes any input and tests 2, 10, 11, 12, 9, 13, 14 in
 // that order.
+#![tactic(auto)]
+
 mod rules;
 
 ghost use Rattle.std.specs.Prelude.{◌≡◌, true};
@@ -18,7 +20,7 @@ use numbers::colour::ColourDirection;
 use numbers::depth::{Depth, FoundDepth};
 
 // An answer, and the parameters: zeros where it refuses.
-#[derive(Drop)]
+#[derive(Clone, Copy)]
 pub struct Derived {
     pub answer: Answer,
     pub params: Params,

@@ -8,7 +8,7 @@ use numbers::depth::FoundDepth;
 
 // bits is D, mid 2^(D-1) and max M. third is what the third term gives. half0 and half1 round the products by p0 and p1. short says that every
 // second factor of the block is below both limits, so that the short product serves.
-#[derive(Drop)]
+#[derive(Clone, Copy)]
 pub struct Mix {
     pub bits: u32,
     pub mid: i32,

@@ -5,7 +5,7 @@ ghost use Rattle.numbers.specs.Colour.{the_colour, is_colour};
 use numbers::colour::{ColourDirection, FoundColour};
 
 // The sizes of its window, the block's own, and the rest of its call.
-#[derive(Drop)]
+#[derive(Clone, Copy)]
 pub struct Block {
     pub ref_width: usize,
     pub ref_height: usize,

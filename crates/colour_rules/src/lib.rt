@@ -1,4 +1,6 @@
 // The tests of a colour prediction, 2, 10, 11, 12, 9, 13 in that order (document 01, Refusal numbers), and the block that they are of.
+#![tactic(auto)]
+
 pub mod block;
 pub mod place;
 pub mod range;

@@ -4,7 +4,7 @@ ghost use Rattle.colour_samples.specs.Nine.{none, added, NineMost, TermsMost};
 
 use crate::sample::Terms;
 
-#[derive(Drop)]
+#[derive(Clone, Copy)]
 pub struct Nine {
     pub a00: u64,
     pub a01: u64,

@@ -7,7 +7,7 @@ ghost use Rattle.colour_samples.specs.Way.{low, low_square, low_terms, OfDepth};
 use numbers::depth::Depth;
 
 // What a depth gives: D, M, 8M+7 and the middle of the range.
-#[derive(Drop)]
+#[derive(Clone, Copy)]
 pub struct DepthTerms {
     pub d: u32,
     pub most: i32,
@@ -47,7 +47,7 @@ fn square(c: u32, middle: u32, d: u32) -> u32
 }
 
 // "Terms: the direction's luma >> 3, (c x c + 2^(D-1)) >> D, and 2^(D-1)."
-#[derive(Drop)]
+#[derive(Clone, Copy)]
 pub struct Terms {
     pub own: u32,
     pub square: u32,

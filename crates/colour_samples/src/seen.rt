@@ -8,7 +8,7 @@ use crate::sample::DepthTerms;
 use direct_calls::range;
 
 // The binary digits that any luma value, and any chroma value, had so far.
-#[derive(Drop)]
+#[derive(Clone, Copy)]
 pub struct Seen {
     pub luma: i32,
     pub chroma: i32,

@@ -9,7 +9,7 @@ use crate::sample;
 use crate::sample::{DepthTerms, Terms};
 use crate::seen::Seen;
 
-#[derive(Drop)]
+#[derive(Clone, Copy)]
 pub struct Totals {
     pub seen: Seen,
     pub sums: Nine,

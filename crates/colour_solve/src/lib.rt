@@ -1,4 +1,6 @@
 // What the nine sums of a window give (document 01, Colour parameters): refusal 14, and the parameters.
+#![tactic(auto)]
+
 mod shift;
 
 ghost use Rattle.std.specs.Prelude.{◌≡◌, ◌*◌, ◌≤◌};

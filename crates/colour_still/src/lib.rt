@@ -1,4 +1,6 @@
 // A colour still's plan is made, run in two orders, and told.
+#![tactic(auto)]
+
 mod room;
 
 use colour_page::{map, runs, table};

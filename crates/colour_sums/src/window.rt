@@ -16,7 +16,7 @@ use colour_samples::totals::Totals;
 use numbers::colour::ColourDirection;
 
 // The sizes of a reference window. The rows of its lists lie `Reference::STRIDE` entries apart.
-#[derive(Drop)]
+#[derive(Clone, Copy)]
 pub struct Window {
     pub ref_width: usize,
     pub ref_height: usize,
@@ -30,7 +30,7 @@ impl Window {
 }
 
 // The nine sums, or that a value which is needed is not in range.
-#[derive(Drop)]
+#[derive(Clone, Copy)]
 pub enum Gathered {
     Sums(Nine),
     OutOfRange,

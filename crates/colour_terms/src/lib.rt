@@ -1,4 +1,6 @@
 // "Terms: the direction's luma >> 3, (c x c + 2^(D-1)) >> D, and 2^(D-1)." (document 01, Colour parameters): what derivation and prediction share.
+#![tactic(auto)]
+
 pub mod reference;
 
 ghost use Rattle.std.specs.Prelude.{◌≡◌, true, ◌≤◌, pos};

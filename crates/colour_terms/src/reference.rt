@@ -3,7 +3,7 @@ ghost use Rattle.std.specs.Prelude.{◌≡◌, ◌≤◌};
 ghost use Rattle.colour_terms.specs.Reference.{most_lines, is_sizes, is_held, is_reference, is_lines};
 
 // The sizes of a reference; luma and chroma have a list each.
-#[derive(Drop)]
+#[derive(Clone, Copy)]
 pub struct Reference {
     pub width: usize,
     pub height: usize,

@@ -1,11 +1,13 @@
 // The words of a colour job (document 02, request (v)): "of words 0 to 15 looks only at x, y, D and mode". Its windows and its block follow from them.
+#![tactic(auto)]
+
 ghost use Rattle.std.specs.Prelude.{◌≡◌};
 ghost use Rattle.colour_words.specs.Colour.{colour_window, colour_block};
 
 use colour_rules::block::Block;
 use colour_sums::window::Window;
 
-#[derive(Drop)]
+#[derive(Clone, Copy)]
 pub struct ColourWords {
     pub x: u16,
     pub y: u16,

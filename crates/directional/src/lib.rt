@@ -1,4 +1,6 @@
 // Directions (document 01, Directions). The public call takes any input, and tests the refusals 1, 2, 3, 9, 8 in that order.
+#![tactic(auto)]
+
 mod choice;
 mod copies;
 pub mod turned;

@@ -1,4 +1,6 @@
 // An order by itself: refusal 22, "the order does not hold each job's index once" (document 01), and whether it is the plan's own.
+#![tactic(auto)]
+
 ghost use Rattle.std.specs.Prelude.{◌≡◌, false, ◌≤◌, length, replicate};
 ghost use Rattle.reorder.specs.Check.{once_b};
 ghost use Rattle.each_once.specs.PlanOrder.{is_plan_order};

@@ -9,7 +9,7 @@ use numbers::answer::Answer;
 use numbers::size::Size;
 
 // How many entries the outputs of a call have.
-#[derive(Drop)]
+#[derive(Clone, Copy)]
 pub struct Lengths {
     pub above: usize,
     pub left: usize,

@@ -1,5 +1,7 @@
 // From samples to edges (document 01, section of that name): `build_refs` takes any input, tests 20, 1, 2, 4, 5, 6, 9, 8 in that order, and writes
 // both edges and the corner.
+#![tactic(auto)]
+
 mod answer;
 
 ghost use Rattle.edges.specs.Refs.{Built};

@@ -1,5 +1,7 @@
 // Three unknowns from nine sums, `gauss_elimination` and `gauss_back_substitute` of mhccp.rs (document 01, Colour parameters). Rows are structs by
 // value.
+#![tactic(auto)]
+
 mod rows;
 
 ghost use Rattle.std.specs.Prelude.{◌≡◌, ◌*◌, ◌≤◌, ◌^◌, pos, nat_abs};
@@ -11,7 +13,7 @@ use crate::rows::{Pair, Row};
 use numbers::depth::Depth;
 
 // The nine sums: the upper half of a symmetric matrix, and the right side.
-#[derive(Drop)]
+#[derive(Clone, Copy)]
 pub struct Sums {
     pub a00: i32,
     pub a01: i32,
@@ -25,7 +27,7 @@ pub struct Sums {
 }
 
 // The three unknowns: the colour parameters.
-#[derive(Drop)]
+#[derive(Clone, Copy)]
 pub struct Params {
     pub x0: i32,
     pub x1: i32,

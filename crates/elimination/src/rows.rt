@@ -9,7 +9,7 @@ use fixed_product::product;
 use reciprocal::Reciprocal;
 
 // A row of the system after its pivot: columns 1 and 2 and the right side.
-#[derive(Drop)]
+#[derive(Clone, Copy)]
 pub struct Row {
     pub y: i32,
     pub z: i32,
@@ -17,7 +17,7 @@ pub struct Row {
 }
 
 // The same with column 2 and the right side.
-#[derive(Drop)]
+#[derive(Clone, Copy)]
 pub struct Pair {
     pub z: i32,
     pub t: i32,

@@ -1,7 +1,7 @@
 // What can be wrong with a file.
 
 // The numbers are the wrong sample's, from 1 on.
-#[derive(Drop)]
+#[derive(Clone, Copy)]
 pub enum Fault {
     Empty,
     TooLong,

@@ -8,7 +8,7 @@ use text::word::Found;
 const MOST: u32 = 64;
 
 // What an entry of the header stands for, and the place after it.
-#[derive(Drop)]
+#[derive(Clone, Copy)]
 pub enum Entry {
     Is(u8, usize),
     NotTaken,
@@ -16,7 +16,7 @@ pub enum Entry {
 }
 
 // The place after the word P2, where it stands at a place.
-#[derive(Drop)]
+#[derive(Clone, Copy)]
 pub enum Start {
     Past(usize),
     Missing,

@@ -1,5 +1,7 @@
 // A plain greymap: its header, and its samples row by row. Comments may stand before each number of the header and before the first sample. A side
 // that is not whole blocks is refused, not padded.
+#![tactic(auto)]
+
 pub mod fault;
 mod header;
 pub mod still;
@@ -13,7 +15,7 @@ use text::word;
 use text::word::Found;
 
 // How many blocks there are across and down, and the depth D.
-#[derive(Drop)]
+#[derive(Clone, Copy)]
 pub struct Greymap {
     pub across: u8,
     pub down: u8,
@@ -21,7 +23,7 @@ pub struct Greymap {
 }
 
 // A greymap and the place after it, or what is wrong with it.
-#[derive(Drop)]
+#[derive(Clone, Copy)]
 pub enum FoundMap {
     Is(Greymap, usize),
     Not(Fault),

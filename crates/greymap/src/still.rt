@@ -5,7 +5,7 @@ use crate::{FoundMap, Greymap, header};
 use text::word;
 
 // The still, or the number of the greymap that is wrong and what is wrong with it.
-#[derive(Drop)]
+#[derive(Clone, Copy)]
 pub enum FoundStill {
     Grey(Greymap),
     Colour(Greymap),
@@ -13,7 +13,7 @@ pub enum FoundStill {
 }
 
 // What follows from a place on: nothing, a greymap that starts there, or something else.
-#[derive(Drop)]
+#[derive(Clone, Copy)]
 enum Next {
     End,
     Map(usize),

@@ -5,7 +5,7 @@ use row_words::flag::Flags;
 use row_words::mode::Mode;
 
 // `spec` has what the edges are built from; `start` is where its differences start.
-#[derive(Drop)]
+#[derive(Clone, Copy)]
 pub struct Job {
     pub spec: IntraRefSpec,
     pub mode: Mode,
@@ -16,7 +16,7 @@ pub struct Job {
 }
 
 // The job of a row, or the answer to a row that breaks one of the rules 1 to 7.
-#[derive(Drop)]
+#[derive(Clone, Copy)]
 pub enum FoundJob {
     Is(Job),
     Refused(Answer),

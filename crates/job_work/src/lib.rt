@@ -1,4 +1,6 @@
 // One job over its plane: the edges are built, the block predicted, and the differences added into the plane.
+#![tactic(auto)]
+
 ghost use Rattle.std.specs.Prelude.{◌≡◌, true, ◌*◌, ◌≤◌, pos, length};
 ghost use Rattle.numbers.specs.Depth.{most};
 ghost use Rattle.lists.specs.Block.{block};

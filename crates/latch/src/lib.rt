@@ -1,5 +1,7 @@
 // What C, C++ and Rust programs link: include/latchorchard.h declares these functions. Each takes any input, returns 0 or a refusal's number, and
 // changes nothing that it was lent when it refuses.
+#![tactic(auto)]
+
 pub mod blocks;
 pub mod colour;
 pub mod jobs;

@@ -1,4 +1,6 @@
 // One of two numbers.
+#![tactic(auto)]
+
 ghost use Rattle.std.specs.Prelude.{◌≡◌, cond, min, max};
 
 // The smaller of two.

@@ -1,4 +1,6 @@
 // "Modes: 0 Paeth, 1 smooth, 2 smooth_v, 3 smooth_h, 4 a direction with its delta." (document 01, Ranges and numbers that name things)
+#![tactic(auto)]
+
 ghost use Rattle.std.specs.Prelude.{◌≡◌, length};
 ghost use Rattle.modes.specs.Ready.{Ready, predicted_block};
 

@@ -3,14 +3,14 @@
 ghost use Rattle.std.specs.Prelude.{◌≡◌};
 ghost use Rattle.numbers.specs.Colour.{colour_of, the_colour, rows_up, columns_left};
 
-#[derive(Drop)]
+#[derive(Clone, Copy)]
 pub enum ColourDirection {
     Centre,
     Above,
     Left,
 }
 
-#[derive(Drop)]
+#[derive(Clone, Copy)]
 pub enum FoundColour {
     Is(ColourDirection),
     NoColour,

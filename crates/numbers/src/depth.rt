@@ -2,14 +2,14 @@
 ghost use Rattle.std.specs.Prelude.{◌≡◌, pos};
 ghost use Rattle.numbers.specs.Depth.{depth_of, bits_of, most};
 
-#[derive(Drop)]
+#[derive(Clone, Copy)]
 pub enum Depth {
     Eight,
     Ten,
     Twelve,
 }
 
-#[derive(Drop)]
+#[derive(Clone, Copy)]
 pub enum FoundDepth {
     Is(Depth),
     NoDepth,

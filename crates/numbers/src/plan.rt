@@ -1,5 +1,5 @@
 // "A plan has 0 to 1,024 jobs." (document 01, Ranges and numbers that name things)
-#[derive(Drop)]
+#[derive(Clone, Copy)]
 pub struct Plan;
 
 impl Plan {

@@ -2,7 +2,7 @@
 ghost use Rattle.std.specs.Prelude.{◌≡◌};
 ghost use Rattle.numbers.specs.Size.{size_of};
 
-#[derive(Drop)]
+#[derive(Clone, Copy)]
 pub enum Size {
     B4,
     B8,
@@ -11,7 +11,7 @@ pub enum Size {
     B64,
 }
 
-#[derive(Drop)]
+#[derive(Clone, Copy)]
 pub enum FoundSize {
     Is(Size),
     NoSize,

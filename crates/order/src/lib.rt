@@ -1,4 +1,6 @@
 // Refusal 23 of an order (document 01, Refusal numbers): no clashing pair is turned round.
+#![tactic(auto)]
+
 mod hull;
 pub mod kept;
 mod sides;

@@ -6,7 +6,7 @@ ghost use Rattle.order.specs.Sides.{sides_of, met, any_met, noted};
 use clash::rect::Rect;
 
 // The first column and the one past the last, the first row and the one past the last.
-#[derive(Drop)]
+#[derive(Clone, Copy)]
 pub struct Sides {
     pub x0: i16,
     pub x1: i16,

@@ -1,4 +1,6 @@
 // Paeth (document 01, The predictors). The public call takes any input, and tests the refusals 1, 2, 9, 8 in that order.
+#![tactic(auto)]
+
 pub mod block;
 
 ghost use Rattle.direct_calls.specs.Direct.{Predicted};

@@ -1,3 +1,5 @@
 // The rows of Paeth (document 01, The predictors).
+#![tactic(auto)]
+
 pub mod row;
 mod value;

@@ -1,4 +1,6 @@
 // A predicted block is written into the plane: "Written sample: prediction plus difference, clipped to 0..M." (document 01, From samples to edges)
+#![tactic(auto)]
+
 ghost use Rattle.std.specs.Prelude.{◌≡◌, true, ◌+◌, ◌*◌, ◌≤◌, pos, length};
 ghost use Rattle.signed.specs.Range.{inside};
 ghost use Rattle.lists.specs.Fill.{tab};

@@ -1,7 +1,7 @@
 // The predictors that are tried on a block, by number: 0 to 3 the plain modes, and from 4 on the directions, each with its seven deltas.
 
 // A job's words that name it.
-#[derive(Drop)]
+#[derive(Clone, Copy)]
 pub struct Candidate {
     pub mode: u16,
     pub direction: u16,

@@ -1,5 +1,7 @@
 // A picture's blocks of 8 x 8, row by row: a block's samples, how far a prediction is off them, the predictors that are tried, the row of a block's
 // job, and orders of the jobs.
+#![tactic(auto)]
+
 pub mod block;
 pub mod candidate;
 pub mod distance;

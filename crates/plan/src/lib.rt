@@ -1,5 +1,7 @@
 // A plan of block jobs over one picture, run in an order (document 01, Refusal numbers). `run` takes any input and tests 20 to 23; the plane and the answers that it
 // leaves are those of the plan's own order, whichever accepted order it was given.
+#![tactic(auto)]
+
 mod rows;
 
 ghost use Rattle.plan.specs.Run.{RanOver};

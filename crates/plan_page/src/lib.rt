@@ -1,5 +1,7 @@
 // The text that is printed of a plan's file: "a line a job, its index and sixteen words in decimal, one space between, or else only the refusal number"
 // (document 02, request (iv)), or "all thirty-two words" (request (v)). The whole file is read and accepted before a line is made.
+#![tactic(auto)]
+
 mod line;
 pub mod pages;
 mod put;

@@ -1,5 +1,7 @@
 // A plane as a picture of letters, the original's and the rebuilt one side by side. A letter is for two samples, one under the other, since it is
 // about twice as high as it is wide. The ends of the ramp are the original's smallest and largest sample.
+#![tactic(auto)]
+
 pub mod measure;
 
 ghost use Rattle.std.specs.Prelude.{◌≤◌};

@@ -7,13 +7,13 @@ use picture_blocks::{block, distance};
 const MOST: usize = 4096;
 
 // The largest of the samples' distances, and all of them together.
-#[derive(Drop)]
+#[derive(Clone, Copy)]
 pub struct PlaneError {
     pub largest: u16,
     pub sum: u32,
 }
 
-#[derive(Drop)]
+#[derive(Clone, Copy)]
 pub struct Range {
     pub least: u16,
     pub most: u16,

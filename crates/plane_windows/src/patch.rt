@@ -2,7 +2,7 @@
 ghost use Rattle.std.specs.Prelude.{◌≡◌, ◌+◌, ◌≤◌};
 ghost use Rattle.plane_windows.specs.Widened.{Widened};
 
-#[derive(Drop)]
+#[derive(Clone, Copy)]
 pub struct Patch {
     pub x: usize,
     pub y: usize,

@@ -1,4 +1,6 @@
 // A picture's plan: for each block, row by row, a job by the predictor that comes nearest to it, with its differences.
+#![tactic(auto)]
+
 mod blocks;
 mod nearest;
 mod predict;

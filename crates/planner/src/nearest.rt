@@ -3,7 +3,7 @@ use crate::predict;
 use picture_blocks::candidate::Candidate;
 use picture_blocks::distance;
 
-#[derive(Drop)]
+#[derive(Clone, Copy)]
 pub struct Choice {
     pub number: u8,
     pub error: u32,

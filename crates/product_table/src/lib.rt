@@ -1,5 +1,7 @@
 // The product at shift 16 by a second factor in 0..4095 (document 01, Colour parameters), for many of them: what both factors drop hangs on how many
 // binary digits the second has, so that it is worked out once for each count. Digits are cleared and not shifted out, and one shift serves for all.
+#![tactic(auto)]
+
 ghost use Rattle.std.specs.Prelude.{◌≡◌, true, ◌≤◌, pos, length};
 ghost use Rattle.signed.specs.Range.{inside};
 ghost use Rattle.fixed_product.specs.Product.{mul_fixed};

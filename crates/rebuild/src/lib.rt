@@ -1,4 +1,6 @@
 // A picture rebuilt from nothing by one run of its plan in an order, and held against the original.
+#![tactic(auto)]
+
 pub mod count;
 mod room;
 
@@ -7,7 +9,7 @@ use picture_blocks::order;
 use series::first;
 
 // The run's answer, how many jobs it did, and how many samples equal the original's.
-#[derive(Drop)]
+#[derive(Clone, Copy)]
 pub struct Rebuilt {
     pub answer: u32,
     pub done: usize,

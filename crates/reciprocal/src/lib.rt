@@ -1,5 +1,7 @@
 // The reciprocal of a natural number, `division_scale_shift` of mhccp.rs (document 01, Colour parameters): a curve of eight pieces, each with a
 // square.
+#![tactic(auto)]
+
 ghost use Rattle.std.specs.Prelude.{◌≡◌, ◌^◌, ◌<◌, ◌≤◌, min, max, unsigned_abs};
 ghost use Rattle.reciprocal.specs.Division.{piece, curve, moved, scale_of};
 ghost use Rattle.fixed_product.specs.Product.{ilog2};
@@ -61,7 +63,7 @@ fn clip(n: u32, least: u32, most: u32) -> u32
 }
 
 // A reciprocal: scale / 2 ^ (16 + shift).
-#[derive(Drop)]
+#[derive(Clone, Copy)]
 pub struct Reciprocal {
     pub scale: i32,
     pub shift: u32,

@@ -4,7 +4,7 @@ ghost use Rattle.std.specs.Int.Signed.{lt_z};
 ghost use Rattle.rect_order.specs.Columns.{bounds_in};
 
 // The first column and the one past the last, the first row and the one past the last.
-#[derive(Drop)]
+#[derive(Clone, Copy)]
 pub struct Bounds {
     pub x0: i16,
     pub x1: i16,

@@ -32,7 +32,7 @@ module _ (J : Jobs) (L : Laws J) (i j : J.Job) (free : ¬ (Clash J i j)) where
       at p = elim (L.writes? i p) [
         | yes w ↦
             let nj : ¬ (J.Writes j p) = λ w'. free (inl (p, w, inr w')) in
-            L.frame j (J.step i s) fi p nj ∙ sym (L.step_Local i (J.step j s) s fj f (unseen J L j i free' s f) p (L.frame j s f p nj))
+            L.frame j (J.step i s) fi p nj ∙ sym (L.step_local i (J.step j s) s fj f (unseen J L j i free' s f) p (L.frame j s f p nj))
         | no ni ↦
-            L.step_Local j (J.step i s) s fi f (unseen J L i j free s f) p (L.frame i s f p ni) ∙ sym (L.frame i (J.step j s) fj p ni)
+            L.step_local j (J.step i s) s fi f (unseen J L i j free s f) p (L.frame i s f p ni) ∙ sym (L.frame i (J.step j s) fj p ni)
       ]

@@ -2,7 +2,7 @@
 use colour_cases::{derived, predicted};
 use luma_cases::{predictors, refs};
 
-#[derive(Drop)]
+#[derive(Clone, Copy)]
 pub struct Tally {
     pub cases: u64,
     pub wrong: u64,

@@ -1,4 +1,6 @@
 // Replays the list of the original's answers, data/*.txt (oracle/record made it), and prints how many cases there are and how many differ.
+#![tactic(auto)]
+
 mod list;
 
 ghost use Rattle.std.specs.Prelude.{◌≡◌, length};

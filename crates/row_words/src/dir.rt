@@ -3,7 +3,7 @@
 ghost use Rattle.std.specs.Prelude.{◌≡◌, true, ◌≤◌, pos, nat_abs};
 ghost use Rattle.row_words.specs.Dir.{dir_of, degrees_of, angle_of, is_delta, delta_of};
 
-#[derive(Drop)]
+#[derive(Clone, Copy)]
 pub enum Dir {
     Vertical,
     Horizontal,
@@ -15,7 +15,7 @@ pub enum Dir {
     D67,
 }
 
-#[derive(Drop)]
+#[derive(Clone, Copy)]
 pub enum FoundDir {
     Is(Dir),
     NoDir,

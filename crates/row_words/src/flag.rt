@@ -3,7 +3,7 @@
 ghost use Rattle.std.specs.Prelude.{◌≡◌};
 ghost use Rattle.row_words.specs.Flag.{flag_bit, is_set, no_stray, flags_of};
 
-#[derive(Drop)]
+#[derive(Clone, Copy)]
 pub enum Flag {
     Above,
     Left,
@@ -13,7 +13,7 @@ pub enum Flag {
 }
 
 // The flags of a word, one by one.
-#[derive(Drop)]
+#[derive(Clone, Copy)]
 pub struct Flags {
     pub above: bool,
     pub left: bool,

@@ -6,7 +6,7 @@ ghost use Rattle.row_words.specs.Mode.{directed_mode, named_mode};
 use crate::dir::{Dir, FoundDir};
 
 // A job's mode is one value: a plain name, or a direction with its delta.
-#[derive(Drop)]
+#[derive(Clone, Copy)]
 pub enum Mode {
     Paeth,
     Smooth,
@@ -15,7 +15,7 @@ pub enum Mode {
     Directional(Dir, i32),
 }
 
-#[derive(Drop)]
+#[derive(Clone, Copy)]
 pub enum FoundMode {
     Is(Mode),
     NoMode,

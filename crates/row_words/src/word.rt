@@ -2,7 +2,7 @@
 ghost use Rattle.std.specs.Prelude.{◌≡◌};
 ghost use Rattle.row_words.specs.Word.{word_place};
 
-#[derive(Drop)]
+#[derive(Clone, Copy)]
 pub enum Word {
     X,
     Y,

@@ -1,5 +1,7 @@
 // A case of `run` in the replayed list (document 01, Refusal numbers, in order of checking): its lists as long as the case says, its answer's number,
 // and what the answers and the plane hold afterwards. Each list is read into a room of its own, which the next function is lent.
+#![tactic(auto)]
+
 use series::{fill, first, room, same};
 use text::line;
 

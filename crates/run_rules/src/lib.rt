@@ -1,4 +1,6 @@
 // "A run tests 20 to 23" (document 01, Refusal numbers, in order of checking).
+#![tactic(auto)]
+
 ghost use Rattle.std.specs.Prelude.{◌≡◌};
 ghost use Rattle.run_rules.specs.Rules.{is_plan, run_answer};
 

@@ -1,4 +1,6 @@
 // A plane's f32 sample, read as a whole number (document 01, From samples to edges): one addition, and the whole part worked out from the bits.
+#![tactic(auto)]
+
 ghost use Rattle.std.specs.Prelude.{◌≡◌, true, T, pos};
 ghost use Rattle.std.specs.Float.Ieee.{le, lt, to_unsigned};
 ghost use Rattle.signed.specs.Range.{inside};

@@ -4,7 +4,7 @@ use text::word;
 use text::word::Found;
 
 // What was found last, the number of that sample from 1 on, and the place after it.
-#[derive(Drop)]
+#[derive(Clone, Copy)]
 pub struct Series {
     pub found: Found,
     pub last: usize,

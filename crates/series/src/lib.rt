@@ -1,4 +1,6 @@
 // Lists of the numbers of a text, for the programs. A list that has no room for so many gets none, and the place after them is the text's end.
+#![tactic(auto)]
+
 pub mod checked;
 pub mod fill;
 pub mod first;

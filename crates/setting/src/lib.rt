@@ -1,5 +1,7 @@
 // What a direction is set to, and what follows from it: the steps along its edges, their filter's strength and limit (document 01,
 // Directions).
+#![tactic(auto)]
+
 pub mod steps;
 
 ghost use Rattle.std.specs.Prelude.{◌≡◌, ◌≤◌};
@@ -8,7 +10,7 @@ ghost use Rattle.setting.specs.Setting.{distance_of, strength_above, strength_le
 use row_words::flag::Flags;
 
 // max_width and max_height are in samples: a word 0, which stands for B, is B here.
-#[derive(Drop)]
+#[derive(Clone, Copy)]
 pub struct Setting {
     pub angle: usize,
     pub flags: Flags,

@@ -1,5 +1,7 @@
 // Reads a plan's file from standard input and prints "a line a job, its index and sixteen words in decimal, one space between, or else only the refusal
 // number" (document 02, request (iv)). What text a file has is `page`'s promise. Nothing is printed before the whole file is read and tested.
+#![tactic(auto)]
+
 mod room;
 
 use libc::STDIN_FILENO;

@@ -1,4 +1,6 @@
 // Standard input and output of the programs that print a plan's file, `show_plan` and `show_tower`.
+#![tactic(auto)]
+
 use libc::{STDERR_FILENO, STDIN_FILENO, STDOUT_FILENO};
 
 // Whether standard input is at its end: where a read failed, what came before it must not pass for a shorter file.

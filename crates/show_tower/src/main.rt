@@ -1,6 +1,8 @@
 // Reads a file of request (v) from standard input and prints "all thirty-two words" of each job, as `show_plan` prints sixteen (document 02, requests
 // (iv) and (v)). The bytes alone do not tell which of the two formats they have, so each has its program. What text a file has is `tower_page`'s
 // promise. Nothing is printed before the whole file is read and tested.
+#![tactic(auto)]
+
 mod room;
 
 use libc::STDIN_FILENO;

@@ -1,5 +1,7 @@
 // A block's two neighbours by places in the plane's list (document 01, From samples to edges). A neighbour that is there is a line of samples, along a
 // row or down a column; one number stands for all the entries of one that is missing.
+#![tactic(auto)]
+
 ghost use Rattle.std.specs.Prelude.{◌≡◌, cond, ◌+◌, ◌-◌, ◌*◌, ◌≤◌, min};
 ghost use Rattle.block_spec.specs.Behind.{corner_behind};
 ghost use Rattle.sides.specs.Spot.{spot_of};
@@ -8,14 +10,14 @@ ghost use Rattle.sides.specs.Side.{above_side, left_side, above_spare, left_spar
 use block_spec::spec::IntraRefSpec;
 
 // What stands behind an entry: the sample at a place of the plane's list, or a number that is no sample.
-#[derive(Drop)]
+#[derive(Clone, Copy)]
 pub enum Spot {
     Sample(usize),
     Number(i32),
 }
 
 // A neighbour of a block of bs by bs, above it or at its left: `first` of its first bs samples are there, and those from bs on up to `end`.
-#[derive(Drop)]
+#[derive(Clone, Copy)]
 pub struct Side {
     pub there: bool,
     pub start: usize,

@@ -1,4 +1,6 @@
 // A single job (document 01, Refusal numbers): "a single job 20, 21, then the same". `run_job` takes any input.
+#![tactic(auto)]
+
 ghost use Rattle.std.specs.Prelude.{◌*◌, ◌≤◌, length};
 ghost use Rattle.refusals.specs.Promise.{Promise};
 ghost use Rattle.job_work.specs.Granted.{Tested, read_answer, read_done};

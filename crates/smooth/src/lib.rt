@@ -1,4 +1,6 @@
 // smooth, smooth_v and smooth_h (document 01, The predictors). The public calls take any input, and test the refusals 1, 2, 9, 8 in that order.
+#![tactic(auto)]
+
 pub mod block;
 
 ghost use Rattle.direct_calls.specs.Direct.{Predicted};

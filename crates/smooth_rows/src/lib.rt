@@ -1,4 +1,6 @@
 // The rows of a block of the smooth predictors, one after the other (document 01, The predictors), of a size bs = 2^k whose weights are given.
+#![tactic(auto)]
+
 ghost use Rattle.std.specs.Prelude.{◌≡◌, ◌-◌, ◌*◌, ◌≤◌, pos, nat_abs, length, get_or};
 ghost use Rattle.lists.specs.Block.{block};
 ghost use Rattle.smooth_steps.specs.Parts.{edge_at, weighed, mean, Entries, Step, Weights};

@@ -1,5 +1,7 @@
 // The steps of a sample of smooth, smooth_v and smooth_h (document 01, The predictors), in natural numbers. A remainder that changes nothing (`% 4096`, `% 128`, `% 64`) tells the compiler how few digits a
 // factor has, so that four products are one instruction.
+#![tactic(auto)]
+
 ghost use Rattle.std.specs.Prelude.{◌≡◌, true, ◌+◌, ◌-◌, ◌*◌, ◌/◌, ◌^◌, ◌≤◌, ◌<◌, pos, nat_abs};
 ghost use Rattle.signed.specs.Range.{inside};
 ghost use Rattle.lists.specs.Block.{sample};

@@ -1,5 +1,7 @@
 // The weights of the smooth predictors (document 01, The predictors): "The 3 x 64 `SM_WEIGHTS` table is copied; its rule is shown over all 192
 // entries."
+#![tactic(auto)]
+
 mod sm_weights;
 
 ghost use Rattle.std.specs.Prelude.{◌≡◌, true, ◌<◌};

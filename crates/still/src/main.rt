@@ -1,6 +1,8 @@
 // Reads a finish-line still, one plain greymap or a colour still's three: those that ship, or the one that is named. Makes a plan of jobs, one for
 // each block by the predictor that comes nearest, much of a colour still's chroma from its luma. Rebuilds the picture from nothing by the plan in
 // two orders, and prints what came of it.
+#![tactic(auto)]
+
 mod room;
 mod show;
 

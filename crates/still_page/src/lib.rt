@@ -1,4 +1,6 @@
 // What the program `still` prints: its page, part by part, and what is wrong with a file.
+#![tactic(auto)]
+
 mod counts;
 pub mod fault;
 mod heading;

@@ -1,4 +1,6 @@
 // "Filter strength by 2B and distance d of the angle from its edge's own axis" (document 01, Directions); and the corner that zone 2 takes.
+#![tactic(auto)]
+
 pub mod corner;
 
 ghost use Rattle.std.specs.Prelude.{◌≡◌};

@@ -1,4 +1,6 @@
 // Text of decimal numbers, with spaces and line ends between them, for the programs.
+#![tactic(auto)]
+
 pub mod line;
 pub mod word;
 
@@ -6,7 +8,7 @@ ghost use Rattle.std.specs.Prelude.{◌<◌, length};
 
 use word::{digit, past_blanks};
 
-#[derive(Drop)]
+#[derive(Clone, Copy)]
 pub struct Token {
     pub value: u32,
     pub next: usize,

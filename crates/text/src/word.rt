@@ -4,7 +4,7 @@ ghost use Rattle.std.specs.Prelude.{◌≤◌};
 use crate::next_line;
 
 // What stands at a place.
-#[derive(Drop)]
+#[derive(Clone, Copy)]
 pub enum Found {
     Number,
     NoNumber,
@@ -13,7 +13,7 @@ pub enum Found {
 }
 
 // The number, where one was found, and the place after it.
-#[derive(Drop)]
+#[derive(Clone, Copy)]
 pub struct Word {
     pub found: Found,
     pub value: u32,

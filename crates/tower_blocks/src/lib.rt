@@ -1,5 +1,7 @@
 // A colour still's blocks of 8 x 8, plane by plane (luma, Cb, Cr) and each plane's row by row: the row of each one's job in a tower's plan, and a
 // second order of the jobs.
+#![tactic(auto)]
+
 pub mod room;
 pub mod row;
 pub mod waves;

@@ -5,7 +5,7 @@ use picture_blocks::row;
 use tower_words::mode::ColourMode;
 
 // What a job can be: by mode 0 to 3, or from luma by one of the colour directions.
-#[derive(Drop)]
+#[derive(Clone, Copy)]
 pub struct Number;
 
 impl Number {

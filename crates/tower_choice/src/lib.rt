@@ -1,4 +1,6 @@
 // Which job a block of a colour still gets: jobs are tried one by one over the planes as they are rebuilt so far.
+#![tactic(auto)]
+
 pub mod alone;
 
 use greymap::Greymap;
@@ -6,7 +8,7 @@ use picture_blocks::{block, distance};
 use tower_blocks::row;
 use tower_blocks::row::Number;
 
-#[derive(Drop)]
+#[derive(Clone, Copy)]
 struct Choice {
     number: u8,
     error: u32,

@@ -4,21 +4,21 @@ use job::job::Job;
 use numbers::answer::Answer;
 
 // A job of the first library, in one of its modes, or colour.
-#[derive(Drop)]
+#[derive(Clone, Copy)]
 pub enum TowerMode {
     Base(Job),
     Colour(ColourWords),
 }
 
 // `plane` is the plane that the job writes.
-#[derive(Drop)]
+#[derive(Clone, Copy)]
 pub struct TowerJob {
     pub plane: u16,
     pub mode: TowerMode,
 }
 
 // The job of a row, or the answer to a row that breaks a rule before 8.
-#[derive(Drop)]
+#[derive(Clone, Copy)]
 pub enum FoundTower {
     Is(TowerJob),
     Refused(Answer),

@@ -1,5 +1,7 @@
 // A tower's plan, block jobs over one luma and two chroma planes, run in an order (document 02, request (v)). `run` takes any input and tests 20 to 23;
 // the planes and the answers that it leaves are those of the plan's own order, whichever accepted order it was given.
+#![tactic(auto)]
+
 mod rows;
 
 ghost use Rattle.tower_work.specs.Granted.{three};

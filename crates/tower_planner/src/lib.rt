@@ -1,5 +1,7 @@
 // A colour still's plan: for each block of each plane a job. A block of chroma is made from luma where that comes near enough; any other is made by
 // the plain mode that comes nearest, with its differences, and so is exact.
+#![tactic(auto)]
+
 mod put;
 
 use greymap::Greymap;

@@ -7,7 +7,7 @@ use rebuild::count;
 use series::first;
 
 // The run's answer, how many jobs it did, and how many samples are other than the first run's.
-#[derive(Drop)]
+#[derive(Clone, Copy)]
 pub struct Again {
     pub answer: u32,
     pub done: usize,

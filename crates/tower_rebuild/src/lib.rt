@@ -1,4 +1,6 @@
 // A colour still rebuilt from nothing by one run of its plan in an order, and by a second run in another, held against the first.
+#![tactic(auto)]
+
 pub mod again;
 pub mod room;
 

@@ -6,7 +6,7 @@ ghost use Rattle.tower_rects.specs.Rows.{rects_of, lowered, lowered_all, nothing
 
 use clash::rect::Rect;
 
-#[derive(Drop)]
+#[derive(Clone, Copy)]
 pub struct JobRects {
     pub written: Rect,
     pub a: Rect,

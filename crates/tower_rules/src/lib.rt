@@ -1,4 +1,6 @@
 // "A run tests 20 to 23" (document 01, Refusal numbers, in order of checking), of a tower's run (document 02, request (v)): "All planes are W by H"; "21 for rows not 32 words".
+#![tactic(auto)]
+
 ghost use Rattle.std.specs.Prelude.{◌≡◌};
 ghost use Rattle.tower_rules.specs.Rules.{are_planes, is_tower_plan, tower_run_answer};
 

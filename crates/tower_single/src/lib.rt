@@ -1,4 +1,6 @@
 // A single job of a tower (document 01, Refusal numbers; document 02, request (v)): "a single job 20, 21, then the same". `run_job` takes any input.
+#![tactic(auto)]
+
 mod alone;
 mod room;
 

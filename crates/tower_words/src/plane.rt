@@ -1,5 +1,5 @@
 // "one luma and two chroma planes" (document 02, request (v)): 0 is luma, 1 and 2 are chroma.
-#[derive(Drop)]
+#[derive(Clone, Copy)]
 pub struct PlaneNumber;
 
 impl PlaneNumber {

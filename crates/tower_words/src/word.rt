@@ -2,7 +2,7 @@
 ghost use Rattle.std.specs.Prelude.{◌≡◌};
 ghost use Rattle.tower_words.specs.Word.{tower_place};
 
-#[derive(Drop)]
+#[derive(Clone, Copy)]
 pub enum TowerWord {
     PlaneWord,
     ColourWord,

@@ -1,4 +1,6 @@
 // One job over a tower's three planes (document 02, request (v)): a job of the first library on its plane, or a colour job.
+#![tactic(auto)]
+
 pub mod base;
 pub mod colour;
 
