@@ -1,5 +1,4 @@
 -- `depth_of` meets its contract: a number that is no word is no depth. Assumes nothing.
-use borrow.Author.Rules.{rules}
 use borrow.Author.Tests.{ne_eqb}
 use native.Mathlib.Omega.{arith}
 use Rattle.colour_terms.proofs.depth_of.Goals as goal

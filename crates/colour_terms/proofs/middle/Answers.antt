@@ -1,7 +1,6 @@
 -- `middle` meets its contract: 128, 512 and 2048. Assumes nothing.
 use mathlib.Core.Path.{sym, ap}
 use lib.IntN.{pos}
-use borrow.Author.Rules.{rules}
 use Rattle.numbers.specs.Depth.{bits_of}
 use Rattle.colour_terms.specs.Terms as terms
 use Rattle.colour_terms.proofs.middle.Goals as goal

@@ -6,7 +6,6 @@ use lib.IntN.{ℤ, nat_abs, ◌+ℤ◌, ◌*ℤ◌}
 use lib.Signed.{shr_z}
 use mir.Syntax.{w32}
 use mir.Val.{SFits}
-use borrow.Author.Rules.{rules}
 use Rattle.signed.proofs.Bound.{Bound, b-abs, b-add, b-mul, b-shr, b-fits, back}
 use Rattle.signed.proofs.Range.{inside-abs}
 use Rattle.colour_terms.specs.Terms.{middle, squared}

@@ -1,5 +1,4 @@
 -- `is_reference` meets its contract: sizes in range are what the test of the list asks for. Assumes nothing.
-use borrow.Author.Rules.{rules}
 use borrow.Author.Tests.{not-true, not-false}
 use mathlib.Core.Path.{◌≡◌, sym, ◌∙◌}
 use mathlib.Core.Bool.{true}
@@ -19,4 +18,4 @@ is_held-requires c = (sizes-all _ _ (sizes c)).1
 
 pub returns : goal.returns
 unfolding is_reference
-returns c = simp (sizes c.before) c.is_held_lem.ensures
+returns c = simp (sizes c.before) c.is_held.ensures

@@ -1,5 +1,4 @@
 -- `Reference::is_held` meets its contract. Assumes nothing.
-use borrow.Author.Rules.{rules}
 use mathlib.Core.Path.{refl}
 use Rattle.colour_terms.specs.Reference.{is_held}
 use Rattle.colour_terms.proofs.reference.Reference.is_held.Goals as goal
