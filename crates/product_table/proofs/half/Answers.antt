@@ -7,8 +7,7 @@ use lib.Signed.{lt_z}
 use mir.Facts.{to_z-of_z}
 use Rattle.signed.proofs.Order.{lt_z-true}
 use Rattle.product_table.specs.Wide.{half_of}
-use Rattle.product_table.proofs.half.Statement.{statement}
-use Rattle.product_table.proofs.half.Tie as tie
+use Rattle.product_table.proofs.half.Goals as goal
 
 down : (a : ℤ) → lt_z a (pos 0) ≡ true → pos 32767 ≡ half_of a
 down (pos n) e = absurd (omega (arith, lt_z-true (pos n) (pos 0) e))
@@ -18,11 +17,8 @@ up : (a : ℤ) → lt_z a (pos 0) ≡ false → pos 32768 ≡ half_of a
 up (pos n) e = refl
 up (negsuc n) e = absurd (true≢false e)
 
-returns : tie.Need-returns
-returns c = let s = c.before in down s.args.a (simp (to_z-of_z, s.ranges.a) at c.if1.true)
+pub returns-then-a-lt0 : goal.returns-then-a-lt0
+returns-then-a-lt0 c = let s = c.before in down s.args.a (simp (to_z-of_z, s.ranges.a) at c.if-a-lt0.true)
 
-returns-2 : tie.Need-returns-2
-returns-2 c = let s = c.before in up s.args.a (simp (to_z-of_z, s.ranges.a) at c.if1.false)
-
-pub half_spec : {M : Type 1} → statement M
-half_spec = tie.close (tie.spec returns returns-2)
+pub returns-else-a-lt0 : goal.returns-else-a-lt0
+returns-else-a-lt0 c = let s = c.before in up s.args.a (simp (to_z-of_z, s.ranges.a) at c.if-a-lt0.false)

@@ -1,5 +1,5 @@
 -- `mul_wide` meets its contract: nothing wraps before the shift, which gives the definition's product. Assumes nothing.
-use borrow.Author.Rules.{rules, sfits_of}
+use borrow.Author.Rules.{sfits_of}
 use mathlib.Core.Path.{◌≡◌, sym, ap, ◌∙◌, subst}
 use Prim.Native.Nat.{◌+◌, ◌*◌, ◌^◌, ◌≤◌}
 use native.Mathlib.Omega.{arith}
@@ -15,10 +15,9 @@ use Rattle.fixed_product.proofs.Bounds.{mul-fits}
 use Rattle.fixed_product.proofs.Thru.{thru}
 use Rattle.product_table.proofs.Kept.{wide_is}
 use Rattle.product_table.proofs.Served.{few, half-small, sum-small}
-use Rattle.product_table.proofs.mul_wide.Statement.{statement}
-use Rattle.product_table.proofs.mul_wide.Tie as tie
+use Rattle.product_table.proofs.mul_wide.Goals as goal
 
-module _ (s : tie.Start) where
+module _ (s : goal.Start) where
   abbrev a : ℤ
   a = s.args.a
 
@@ -26,13 +25,13 @@ module _ (s : tie.Start) where
   sum = kept_product a s.args.b +ℤ half_of a
 
   small : nat_abs s.args.b ≤ 4095
-  small = inside-abs 4095 s.args.b s.pre.1
+  small = inside-abs 4095 s.args.b s.requires.1
 
   b-is : s.args.b ≡ pos (nat_abs s.args.b)
-  b-is = inside-pos 4095 s.args.b s.pre.1
+  b-is = inside-pos 4095 s.args.b s.requires.1
 
   sum-most : Bound (2 ^ 32 * 2 ^ 7 * 4095 + 32768) sum
-  sum-most = subst (λ (z : ℤ). Bound (2 ^ 32 * 2 ^ 7 * 4095 + 32768) (kept_product a z +ℤ half_of a)) (sym b-is) (sum-small a (nat_abs s.args.b) s.fits.a small)
+  sum-most = subst (λ (z : ℤ). Bound (2 ^ 32 * 2 ^ 7 * 4095 + 32768) (kept_product a z +ℤ half_of a)) (sym b-is) (sum-small a (nat_abs s.args.b) s.ranges.a small)
 
   sum_fits : SFits w64 sum
   sum_fits = b-fits w64 sum-most tt
@@ -46,48 +45,40 @@ module _ (s : tie.Start) where
   is : shr_z sum 65536 ≡ mul_fixed a s.args.b 16
   is =
       ap (λ (z : ℤ). shr_z (kept_product a z +ℤ half_of a) 65536) b-is
-      ∙ wide_is a (nat_abs s.args.b) (few a (nat_abs s.args.b) s.fits.a small) (omega (arith, small))
+      ∙ wide_is a (nat_abs s.args.b) (few a (nat_abs s.args.b) s.ranges.a small) (omega (arith, small))
       ∙ ap (λ (z : ℤ). mul_fixed a z 16) (sym b-is)
 
   result_fits : SFits w32 (shr_z sum 65536)
-  result_fits = subst (SFits w32) (sym is) (mul-fits a s.args.b s.fits.a s.fits.b 16)
+  result_fits = subst (SFits w32) (sym is) (mul-fits a s.args.b s.ranges.a s.ranges.b 16)
 
 -- what the two calls gave
-module _ (c : tie.After-half) where
-  abbrev s : tie.Start
+module _ (c : goal.After-half) where
+  abbrev s : goal.Start
   s = c.before.before
 
   half= : thru c.half.result ≡ half_of (a s)
-  half= = back w32 {z = c.half.result} (sfits_of c.half.type-inv) ∙ (simp (back w32 s.fits.a) at c.half.ensures)
+  half= = back w32 {z = c.half.result} (sfits_of c.half.type_inv) ∙ (simp (back w32 s.ranges.a) at c.half.ensures)
 
-  product= : to_z w64 (of_z w64 c.before.kept-product.result) ≡ kept_product (a s) s.args.b
+  product= : to_z w64 (of_z w64 c.kept_product.result) ≡ kept_product (a s) s.args.b
   product= =
-      back w64 {z = c.before.kept-product.result} (sfits_of c.before.kept-product.type-inv)
-      ∙ (simp (back w32 s.fits.a, back w32 s.fits.b) at c.before.kept-product.ensures)
+      back w64 {z = c.kept_product.result} (sfits_of c.kept_product.type_inv)
+      ∙ (simp (back w32 s.ranges.a, back w32 s.ranges.b) at c.kept_product.ensures)
 
-kept-product-requires : tie.Need-kept-product-requires
-kept-product-requires c κs = simp (back w32 c.ranges.a, back w32 c.ranges.b) c.requires
+pub kept_product-requires : goal.kept_product-requires
+kept_product-requires c = simp (back w32 c.ranges.a, back w32 c.ranges.b) c.requires
 
-half-requires : tie.Need-half-requires
-half-requires c κs = search rules
+pub overflow_cast-result : goal.overflow_cast-result
+overflow_cast-result c = simp (half= c) (half-fits (s c))
 
-cast-result : tie.Need-overflow-cast-result
-cast-result c = simp (half= c) (half-fits (s c))
+pub overflow_add-result : goal.overflow_add-result
+overflow_add-result c = simp (product= c, half= c, back w64 (half-fits (s c))) (sum_fits (s c))
 
-add-result : tie.Need-overflow-add-result
-add-result c = simp (product= c, half= c, back w64 (half-fits (s c))) (sum_fits (s c))
-
-cast-result-2 : tie.Need-overflow-cast-result-2
-cast-result-2 c =
+pub overflow_cast-result-2 : goal.overflow_cast-result-2
+overflow_cast-result-2 c =
     let s = s c in
     simp (product= c, half= c, back w64 (half-fits s), back w64 (sum_fits s), back w64 (shifted_fits s)) (result_fits s)
 
-returns : tie.Need-returns
+pub returns : goal.returns
 returns c =
     let s = s c in
     simp (product= c, half= c, back w64 (half-fits s), back w64 (sum_fits s), back w64 (shifted_fits s)) (back w32 (result_fits s) ∙ is s)
-
-pub mul-wide-spec : {M : Type 1} → statement M
-mul-wide-spec =
-    tie.close
-    (tie.spec kept-product-requires half-requires cast-result add-result cast-result-2 returns)

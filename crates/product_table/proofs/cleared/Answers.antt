@@ -1,5 +1,4 @@
 -- `cleared` meets its contract. Assumes nothing.
-use borrow.Author.Rules.{rules}
 use mathlib.Core.Path.{◌≡◌}
 use Prim.Native.Nat.{◌*◌, ◌%◌, ◌^◌, ◌<◌}
 use native.Mathlib.Omega.{arith}
@@ -12,10 +11,9 @@ use Rattle.product_table.specs.Wide.{cleared}
 use Rattle.fixed_product.proofs.Shift.{shr-fits}
 use Rattle.fixed_product.proofs.Rounding.{one_shl}
 use Rattle.product_table.proofs.Served.{cleared-small, shifted-wide}
-use Rattle.product_table.proofs.cleared.Statement.{statement}
-use Rattle.product_table.proofs.cleared.Tie as tie
+use Rattle.product_table.proofs.cleared.Goals as goal
 
-module _ (c : tie.Start) where
+module _ (c : goal.Start) where
   shr= : SFits w32 (shr_z c.args.a (2 ^ c.args.s))
   shr= = shr-fits c.args.a (2 ^ c.args.s) c.ranges.a
 
@@ -28,27 +26,24 @@ module _ (c : tie.Start) where
   product : SFits w64 (cleared c.args.a c.args.s)
   product = b-fits w64 (cleared-small c.args.a c.args.s c.ranges.a c.requires) tt
 
-shl-unit : tie.Need-overflow-shl-unit
-shl-unit c = omega (arith, c.requires)
+pub overflow_shl-unit : goal.overflow_shl-unit
+overflow_shl-unit c = omega (arith, c.requires)
 
-cast-result : tie.Need-overflow-cast-result
-cast-result c = search rules
+pub overflow_shr-result : goal.overflow_shr-result
+overflow_shr-result c = omega (arith, c.requires)
 
-shr-result : tie.Need-overflow-shr-result
-shr-result c = omega (arith, c.requires)
+pub overflow_cast-result-2 : goal.overflow_cast-result-2
+overflow_cast-result-2 c = simp (back w32 c.ranges.a, back w32 (shr= c)) (shifted-wide c.args.a (2 ^ c.args.s) c.ranges.a)
 
-cast-result-2 : tie.Need-overflow-cast-result-2
-cast-result-2 c = simp (back w32 c.ranges.a, back w32 (shr= c)) (shifted-wide c.args.a (2 ^ c.args.s) c.ranges.a)
+pub overflow_cast-result-3 : goal.overflow_cast-result-3
+overflow_cast-result-3 c = simp (unit c) (sfits-abs w64 _ (unit-small c))
 
-cast-result-3 : tie.Need-overflow-cast-result-3
-cast-result-3 c = simp (unit c) (sfits-abs w64 _ (unit-small c))
-
-mul-result : tie.Need-overflow-mul-result
-mul-result c =
+pub overflow_mul-result : goal.overflow_mul-result
+overflow_mul-result c =
     simp (back w32 c.ranges.a, back w32 (shr= c), back w64 (shifted-wide c.args.a (2 ^ c.args.s) c.ranges.a), unit c, back-pos w64 (2 ^ c.args.s) (unit-small c))
     (product c)
 
-returns : tie.Need-returns
+pub returns : goal.returns
 returns c =
     simp (
       back w32 c.ranges.a,
@@ -58,8 +53,3 @@ returns c =
       back-pos w64 (2 ^ c.args.s) (unit-small c),
       back w64 (product c),
     )
-
-pub cleared-spec : {M : Type 1} → statement M
-cleared-spec =
-    tie.close
-    (tie.spec shl-unit cast-result shr-result cast-result-2 cast-result-3 mul-result returns)
