@@ -10,10 +10,16 @@ use lib.IntN.{ℤ, pos, nat_abs, neg_ℤ, ◌+ℤ◌, ◌-ℤ◌}
 use Prim.Native.Nat.{◌≤◌}
 use Rattle.signed.proofs.Bound.{abs-add, abs-sub, sfits-abs}
 use Rattle.paeth_rows.proofs.Laws.{less_none}
+use Rattle.paeth_rows.proofs.value.paeth_single.Goals as goal
+use Rattle.paeth_rows.proofs.value.paeth_single.Lts as lts
+use Rattle.paeth_rows.proofs.value.paeth_single.Reads as reads
 use Rattle.paeth_rows.proofs.value.paeth_single.Tie as tie
 
+abbrev At-After-nearness-to_corner : Type 0
+At-After-nearness-to_corner = lts.After-nearness3 tie.the-claims reads.Pre reads.Post
+
 -- x, y and their sum
-module _ (c : tie.Start) where
+module _ (c : goal.Start) where
   abbrev pub x : ℤ
   x = c.args.top -ℤ c.args.corner
 
@@ -49,21 +55,21 @@ module _ (c : tie.Start) where
   nearest-is = cond left-corner y other-is
 
 -- the three distances, as the tests read them
-pub to-left : (k : tie.After-nearness) → to_z w32 (of_z w32 k.nearness.result) ≡ neg_ℤ (pos (nat_abs (x k.before)))
+pub to-left : (k : goal.After-nearness-to_left) → to_z w32 (of_z w32 k.nearness-to_left.result) ≡ neg_ℤ (pos (nat_abs (x k.before)))
 to-left k =
     let c = k.before in
-    to_z-of_z {z = k.nearness.result} (record { sfits = k.nearness.type-inv })
-    ∙ simp (to_z-of_z, c.ranges.top, c.ranges.corner) at k.nearness.ensures
+    to_z-of_z {w = w32} {z = k.nearness-to_left.result} (record { sfits = k.nearness-to_left.type_inv })
+    ∙ simp (to_z-of_z, c.ranges.top, c.ranges.corner) at k.nearness-to_left.ensures
 
-pub to-top : (k : tie.After-nearness2) → to_z w32 (of_z w32 k.nearness2.result) ≡ neg_ℤ (pos (nat_abs (y k.before.before)))
+pub to-top : (k : goal.After-nearness-to_top) → to_z w32 (of_z w32 k.nearness-to_top.result) ≡ neg_ℤ (pos (nat_abs (y k.before.before)))
 to-top k =
     let c = k.before.before in
-    to_z-of_z {z = k.nearness2.result} (record { sfits = k.nearness2.type-inv })
-    ∙ simp (to_z-of_z, c.ranges.left, c.ranges.corner) at k.nearness2.ensures
+    to_z-of_z {w = w32} {z = k.nearness-to_top.result} (record { sfits = k.nearness-to_top.type_inv })
+    ∙ simp (to_z-of_z, c.ranges.left, c.ranges.corner) at k.nearness-to_top.ensures
 
-pub to-corner : (k : tie.After-nearness3) → to_z w32 (of_z w32 k.nearness3.result) ≡ neg_ℤ (pos (nat_abs (x k.before.before.before +ℤ y k.before.before.before)))
+pub to-corner : (k : At-After-nearness-to_corner) → to_z w32 (of_z w32 k.nearness-to_corner.result) ≡ neg_ℤ (pos (nat_abs (x k.before.before.before +ℤ y k.before.before.before)))
 to-corner k =
     let c = k.before.before.before in
-    to_z-of_z {z = k.nearness3.result} (record { sfits = k.nearness3.type-inv })
-    ∙ simp (to_z-of_z, c.ranges.left, c.ranges.top, c.ranges.corner, x_fits c, y-fits c, sum_fits c) at k.nearness3.ensures
+    to_z-of_z {w = w32} {z = k.nearness-to_corner.result} (record { sfits = k.nearness-to_corner.type_inv })
+    ∙ simp (to_z-of_z, c.ranges.left, c.ranges.top, c.ranges.corner, x_fits c, y-fits c, sum_fits c) at k.nearness-to_corner.ensures
     ∙ ap (λ z. neg_ℤ (pos (nat_abs z))) (less_none (x c +ℤ y c))

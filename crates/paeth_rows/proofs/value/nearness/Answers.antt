@@ -6,40 +6,36 @@ use mir.Syntax.{w32}
 use lib.IntN.{pos, neg_ℤ, ◌-ℤ◌}
 use Rattle.signed.proofs.Bound.{abs-sub, abs-swap, sub-down, sfits-abs}
 use Rattle.signed.proofs.Order.{le_of_lt, le_of_not_lt}
-use Rattle.paeth_rows.proofs.value.nearness.Statement.{statement}
-use Rattle.paeth_rows.proofs.value.nearness.Tie as tie
+use Rattle.paeth_rows.proofs.value.nearness.Goals as goal
 
-sub-result : tie.Need-overflow-sub-result
-sub-result c =
+pub overflow_sub-result : goal.overflow_sub-result
+overflow_sub-result c =
     let s = c.before in
     let fa = s.ranges.a in
     let fb = s.ranges.b in
     simp to_z-of_z (sfits-abs w32 (s.args.b -ℤ s.args.a) (omega (arith, abs-sub s.args.b s.args.a)))
 
-sub-result-2 : tie.Need-overflow-sub-result-2
-sub-result-2 c =
+pub overflow_sub-result-else-a-b : goal.overflow_sub-result-else-a-b
+overflow_sub-result-else-a-b c =
     let s = c.before in
     let fa = s.ranges.a in
     let fb = s.ranges.b in
     simp to_z-of_z (sfits-abs w32 (s.args.a -ℤ s.args.b) (omega (arith, abs-sub s.args.a s.args.b)))
 
-returns : tie.Need-returns
-returns c =
+pub returns-then-a-b : goal.returns-then-a-b
+returns-then-a-b c =
     let s = c.before in
     let fa = s.ranges.a in
     let fb = s.ranges.b in
     let fd = sfits-abs w32 (s.args.b -ℤ s.args.a) (omega (arith, abs-sub s.args.b s.args.a)) in
     simp to_z-of_z
-    (sub-down s.args.b s.args.a (le_of_lt s.args.b s.args.a (simp to_z-of_z at c.if1.true))
+    (sub-down s.args.b s.args.a (le_of_lt s.args.b s.args.a (simp to_z-of_z at c.if-a-b.true))
     ∙ ap (λ n. neg_ℤ (pos n)) (abs-swap s.args.b s.args.a))
 
-returns-2 : tie.Need-returns-2
-returns-2 c =
+pub returns-else-a-b : goal.returns-else-a-b
+returns-else-a-b c =
     let s = c.before in
     let fa = s.ranges.a in
     let fb = s.ranges.b in
     let fd = sfits-abs w32 (s.args.a -ℤ s.args.b) (omega (arith, abs-sub s.args.a s.args.b)) in
-    simp to_z-of_z (sub-down s.args.a s.args.b (le_of_not_lt s.args.b s.args.a (simp to_z-of_z at c.if1.false)))
-
-pub nearness-spec : {M : Type 1} → statement M
-nearness-spec = tie.close (tie.spec sub-result sub-result-2 returns returns-2)
+    simp to_z-of_z (sub-down s.args.a s.args.b (le_of_not_lt s.args.b s.args.a (simp to_z-of_z at c.if-a-b.false)))
