@@ -19,7 +19,7 @@ use Rattle.block_image.specs.Taken.{blocks_in, WholeFile, rows_of, plan_of}
 use Rattle.block_image.specs.Fits.{Fits}
 use Rattle.block_image.specs.declared.format.Format.{Format}
 use Rattle.block_image.proofs.Held.{of-block, rows_are}
-use Rattle.block_image.proofs.RowsOf.{rows_in}
+use Rattle.block_image.proofs.RowsOf.{rows-in}
 use Rattle.block_image.proofs.BlockBack.{block-is}
 
 module _ (F : Format) (fit : Fits F) (bytes : List ℕ) (small : (i : ℕ) → get_or bytes i 0 < 256) (accepted : WholeFile F bytes) where
@@ -50,7 +50,7 @@ module _ (F : Format) (fit : Fits F) (bytes : List ℕ) (small : (i : ℕ) → g
 
   size_is : image_size F plan ≡ length bytes
   size_is =
-      ap (λ (x : ℕ). 512 * blocks_for F x) (rows_in F fit bytes)
+      ap (λ (x : ℕ). 512 * blocks_for F x) (rows-in F fit bytes)
       ∙ ap (λ (x : ℕ). 512 * x) blocks-are
       ∙ omega (arith, whole_is)
 

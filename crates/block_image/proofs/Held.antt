@@ -2,19 +2,18 @@
 use mathlib.Core.Path.{◌≡◌, sym, ◌∙◌, ap}
 use mathlib.Core.List.{List}
 use mathlib.Core.Logic.{◌⊎◌, inl, inr, ⊎_elim}
-use Prim.Native.Nat.{ℕ, ◌+◌, ◌-◌, ◌*◌, ◌/◌, ◌<◌, ◌≤◌, min}
-use native.Mathlib.Nat.{mul-le-mul_right, mul-div_cancel, min-eq_right, min-eq_left}
+use Prim.Native.Nat.{ℕ, ◌+◌, ◌-◌, ◌*◌, ◌<◌, ◌≤◌, min}
+use native.Mathlib.Nat.{mul-le-mul_right, min-eq_right, min-eq_left}
 use native.Mathlib.Omega.{arith}
-use lib.ListN.{length, get_or}
+use lib.ListN.{get_or}
 use borrow.Author.Tests.{ne_eqb}
 use Rattle.signed.proofs.Naturals.{either}
-use Rattle.lists.proofs.Fill.{length-tab}
 use Rattle.block_image.specs.Image.{rows_in, used_in}
 use Rattle.block_image.specs.Rules.{block_bytes, used_at}
 use Rattle.block_image.specs.Taken.{blocks_in, WholeFile, rows_of, plan_of}
 use Rattle.block_image.specs.Fits.{Fits}
 use Rattle.block_image.specs.declared.format.Format.{Format}
-use Rattle.block_image.proofs.RowsOf.{rows_in}
+use Rattle.block_image.proofs.RowsOf.{rows-in}
 use Rattle.block_image.proofs.Block.{Shown, shown}
 
 module _ (F : Format) (fit : Fits F) (bytes : List ℕ) (small : (i : ℕ) → get_or bytes i 0 < 256) (accepted : WholeFile F bytes) where
@@ -49,7 +48,7 @@ module _ (F : Format) (fit : Fits F) (bytes : List ℕ) (small : (i : ℕ) → g
 
   pub used-is : (k : ℕ) → k < n → used_in F (rows_in F plan) k ≡ used k
   used-is k l =
-      ap (λ (m : ℕ). used_in F m k) (rows_in F fit bytes)
+      ap (λ (m : ℕ). used_in F m k) (rows-in F fit bytes)
       ∙ ⊎_elim
       (λ p. ap (λ (m : ℕ). min F.rows (m - k * F.rows)) p.1 ∙ ap (min F.rows) (omega arith) ∙ min-eq_right (of-block k l).fit)
       (λ p. min-eq_left (omega (arith, p.1)) ∙ sym p.0)

@@ -17,8 +17,8 @@ pub plan-length : (F : Format) (bytes : List ℕ) → length (plan_of F bytes) �
 unfolding plan_of
 plan-length F bytes = length-tab _ _
 
-pub rows_in : (F : Format) → Fits F → (bytes : List ℕ) → rows_in F (plan_of F bytes) ≡ rows_of F bytes
-rows_in F fit bytes = ap (λ (m : ℕ). m / F.words) (plan-length F bytes) ∙ mul-div_cancel (rows_of F bytes) fit.some_words
+pub rows-in : (F : Format) → Fits F → (bytes : List ℕ) → rows_in F (plan_of F bytes) ≡ rows_of F bytes
+rows-in F fit bytes = ap (λ (m : ℕ). m / F.words) (plan-length F bytes) ∙ mul-div_cancel (rows_of F bytes) fit.some_words
 
 pub rows_next : (F : Format) (bytes : List ℕ) (k : ℕ) → k * F.rows + used_at (block_bytes bytes k) ≡ rows_to F bytes (k + 1)
 rows_next F bytes k =
