@@ -6,7 +6,11 @@ mod list;
 ghost use Rattle.std.specs.Prelude.{◌≡◌, length};
 
 use crate::list::Tally;
-use libc::STDOUT_FILENO;
+use std::fs::{File, Files};
+use std::str;
+
+// The number of standard output.
+const STDOUT: i32 = 1;
 
 // The name of a file of the list.
 fn path_of(k: u8) -> [u8; 5]
@@ -16,26 +20,29 @@ fn path_of(k: u8) -> [u8; 5]
 }
 
 // One file of the list after the other, until one is not there.
-fn replay_files(buffer: &mut [u8]) -> Tally {
+fn replay_files(rt: &impl Files, buffer: &mut [u8]) -> Tally {
     let mut tally = Tally { cases: 0, wrong: 0 };
     for k in 0..10 {
         let path = path_of(k);
-        let file = os::open_read(&path);
-        if file < 0 {
-            return tally;
+        match str::from_utf8(&path) {
+            Ok(name) => match File::open(rt, name) {
+                Ok(mut file) => {
+                    let n = file_bytes::read_full(&mut file, buffer);
+                    tally = list::replay(&buffer[..n], tally);
+                }
+                Err(_) => return tally,
+            },
+            Err(_) => return tally,
         }
-        let n = io::read_full(file, buffer);
-        libc::close(file);
-        tally = list::replay(&buffer[..n], tally);
     }
     tally
 }
 
-fn main() {
+fn main(rt: HostRuntime) {
     let mut buffer = io::large_buffer();
-    let tally = replay_files(&mut buffer);
-    io::print_decimal(STDOUT_FILENO, tally.cases);
-    io::write_all(STDOUT_FILENO, b" cases, ");
-    io::print_decimal(STDOUT_FILENO, tally.wrong);
-    io::write_all(STDOUT_FILENO, b" differ\n");
+    let tally = replay_files(&rt, &mut buffer);
+    io::print_decimal(STDOUT, tally.cases);
+    io::write_all(STDOUT, b" cases, ");
+    io::print_decimal(STDOUT, tally.wrong);
+    io::write_all(STDOUT, b" differ\n");
 }

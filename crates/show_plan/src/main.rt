@@ -4,8 +4,6 @@
 
 mod room;
 
-use libc::STDIN_FILENO;
-
 // The page of a file.
 fn show(bytes: &[u8]) {
     let mut plan = room::plan();
@@ -15,11 +13,11 @@ fn show(bytes: &[u8]) {
 }
 
 // 65,536 bytes are more than any plan's file has: an input that fills the buffer is refused by 40, whatever follows.
-fn main() {
+fn main(rt: HostRuntime) {
     let mut file = io::large_buffer();
-    let n = io::read_full(STDIN_FILENO, &mut file);
+    let n = show_streams::read(&mut file);
     if n < 65536 {
-        if !show_streams::is_ended() {
+        if !show_streams::is_ended(&rt) {
             show_streams::tell_unread();
             return;
         }

@@ -5,8 +5,6 @@
 
 mod room;
 
-use libc::STDIN_FILENO;
-
 // The page of a file.
 fn show(bytes: &[u8]) {
     let mut plan = room::plan();
@@ -16,11 +14,11 @@ fn show(bytes: &[u8]) {
 }
 
 // An input that fills the room for a file is refused by 40, whatever follows.
-fn main() {
+fn main(rt: HostRuntime) {
     let mut file = room::file();
-    let n = io::read_full(STDIN_FILENO, &mut file);
+    let n = show_streams::read(&mut file);
     if n < 81920 {
-        if !show_streams::is_ended() {
+        if !show_streams::is_ended(&rt) {
             show_streams::tell_unread();
             return;
         }

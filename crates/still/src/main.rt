@@ -5,17 +5,22 @@
 
 mod room;
 mod show;
+mod unopened;
 
 use greymap::fault::Fault;
 use greymap::still;
 use greymap::still::FoundStill;
 use series::first;
+use std::env::{Env, FillError};
+use std::fs::{File, Files};
+use std::io::Read;
+use std::str;
 use still_page::{fault, print};
 
 // The file's still, its samples in the planes' first places.
-fn load(file: i32, luma: &mut [f32], cb: &mut [f32], cr: &mut [f32]) -> FoundStill {
+fn load<R: Read>(file: &mut R, luma: &mut [f32], cb: &mut [f32], cr: &mut [f32]) -> FoundStill {
     let mut buffer = io::large_buffer();
-    let n = io::read_full(file, &mut buffer);
+    let n = file_bytes::read_full(file, &mut buffer);
     if n == 0 {
         return FoundStill::Not(1, Fault::Empty);
     }
@@ -25,18 +30,12 @@ fn load(file: i32, luma: &mut [f32], cb: &mut [f32], cr: &mut [f32]) -> FoundSti
     still::read(&buffer[..n], luma, cb, cr)
 }
 
-fn show_file(name: &[u8]) {
-    let file = os::open_read(name);
-    if file < 0 {
-        os::fail(name);
-        return;
-    }
+// What an open file has.
+fn show_open<R: Read>(name: &[u8], file: &mut R) {
     let mut luma = room::picture();
     let mut cb = room::picture();
     let mut cr = room::picture();
-    let found = load(file, &mut luma, &mut cb, &mut cr);
-    libc::close(file);
-    match found {
+    match load(file, &mut luma, &mut cb, &mut cr) {
         FoundStill::Grey(g) => show::show(name, first::samples(&luma, g.area()), g),
         FoundStill::Colour(g) => {
             let n = g.area();
@@ -52,27 +51,39 @@ fn show_file(name: &[u8]) {
     }
 }
 
-// The file that the one argument names.
-fn show_named() {
-    let mut buffer = io::buffer();
-    let n = os::arg(1, &mut buffer);
-    if os::errno() != 0 {
-        os::fail(b"still");
-        return;
+fn show_file(rt: &impl Files, name: &str) {
+    match File::open(rt, name) {
+        Ok(mut file) => show_open(name.as_bytes(), &mut file),
+        Err(error) => unopened::tell(name.as_bytes(), error),
     }
-    show_file(&buffer[..n]);
 }
 
-fn main() {
-    if os::arg_count() < 2 {
-        show_file(b"finish.pgm");
-        print::say(b"\n");
-        show_file(b"helmets.pgm");
-        return;
+// The file that an argument names.
+fn show_named(rt: &impl Files, name: &[u8]) {
+    match str::from_utf8(name) {
+        Ok(text) => show_file(rt, text),
+        Err(_) => unopened::tell_no_text(name),
     }
-    if 2 < os::arg_count() {
-        fault::tell_usage();
-        return;
+}
+
+// The one file that is named, or those that ship.
+fn show_all<R: Files + Env>(rt: &R, name: &mut [u8], more: &mut [u8]) {
+    match rt.arg(1, name) {
+        Ok(n) => match rt.arg(2, more) {
+            Err(FillError::NotPresent) => show_named(rt, &name[..n]),
+            _ => fault::tell_usage(),
+        },
+        Err(FillError::TooLong) => unopened::tell_long(),
+        Err(FillError::NotPresent) => {
+            show_file(rt, "finish.pgm");
+            print::say(b"\n");
+            show_file(rt, "helmets.pgm");
+        }
     }
-    show_named();
+}
+
+fn main(rt: HostRuntime) {
+    let mut name = io::buffer();
+    let mut more = [0u8; 1];
+    show_all(&rt, &mut name, &mut more);
 }

@@ -1,15 +1,17 @@
 // What is wrong with a file: one line on standard error, with the file's name, in the form of `os::fail`.
 use greymap::fault::Fault;
-use libc::STDERR_FILENO;
+
+// The number of standard error.
+const STDERR: i32 = 2;
 
 fn say(s: &[u8]) {
-    io::write_all(STDERR_FILENO, s);
+    io::write_all(STDERR, s);
 }
 
 // A number between two texts.
 fn counted(before: &[u8], n: usize, after: &[u8]) {
     say(before);
-    io::print_decimal(STDERR_FILENO, n as u64);
+    io::print_decimal(STDERR, n as u64);
     say(after);
 }
 

@@ -1,12 +1,13 @@
 // Text and numbers on standard output.
-use libc::STDOUT_FILENO;
+// The number of standard output.
+const STDOUT: i32 = 1;
 
 pub fn say(s: &[u8]) {
-    io::write_all(STDOUT_FILENO, s);
+    io::write_all(STDOUT, s);
 }
 
 pub fn number(n: usize) {
-    io::print_decimal(STDOUT_FILENO, n as u64);
+    io::print_decimal(STDOUT, n as u64);
 }
 
 // A number that ends in the column in which the blanks would.

@@ -2,20 +2,16 @@
 use Prim.Native.Nat.{◌≤◌}
 use native.Mathlib.Nat.{mul-le-mul}
 use native.Mathlib.Omega.{arith}
-use Rattle.greymap.proofs.product.Statement.{statement}
-use Rattle.greymap.proofs.product.Tie as tie
+use Rattle.greymap.proofs.product.Goals as goal
 
-mul-result : tie.Need-overflow-mul-result
-mul-result c =
+pub overflow_mul-result : goal.overflow_mul-result
+overflow_mul-result c =
     let a : c.args.a ≤ 255 = omega arith in
     let b : c.args.b ≤ 255 = omega arith in
     omega (arith, mul-le-mul a b)
 
-returns : tie.Need-returns
+pub returns : goal.returns
 returns c =
     let a : c.args.a ≤ 255 = omega arith in
     let b : c.args.b ≤ 255 = omega arith in
     omega (arith, mul-le-mul a b)
-
-pub product-spec : {M : Type 1} → statement M
-product-spec = tie.close (tie.spec mul-result returns)
