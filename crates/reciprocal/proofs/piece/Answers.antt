@@ -3,8 +3,7 @@ use Rattle.std.proofs.Common.{ℤ, ◌+ℤ◌, ◌-ℤ◌, ◌*ℤ◌, ⊎_elim,
 use lib.Signed.{shr_z}
 use Rattle.signed.proofs.Parts.{abs, one, shr}
 use Rattle.signed.proofs.Bound.{Bound, b-add, b-sub, b-mul, b-shr, b-fits, back}
-use Rattle.reciprocal.proofs.piece.Statement.{statement}
-use Rattle.reciprocal.proofs.piece.Tie as tie
+use Rattle.reciprocal.proofs.piece.Goals as goal
 
 record Fit (w x b : ℤ) : Type 0 where
   m : SFits w32 (x *ℤ x)
@@ -25,7 +24,7 @@ small x h =
     let g = abs r in
     record { most = ⊎_elim (λ z. omega (arith, b.most)) (λ z. omega (arith, b.most)) (one r) }
 
-fit : (c : tie.Start) → Fit c.args.w c.args.x c.args.b
+fit : (c : goal.Start) → Fit c.args.w c.args.x c.args.b
 fit c =
     let w : Bound 214 c.args.w = record { most = c.requires.0 } in
     let x : Bound 23175 c.args.x = record { most = c.requires.1 } in
@@ -43,19 +42,19 @@ fit c =
       r = b-fits w32 (b-add d b) tt;
     }
 
-mul-result : tie.Need-overflow-mul-result
-mul-result c = let f = fit c in search rules
+pub overflow_mul-result : goal.overflow_mul-result
+overflow_mul-result c = let f = fit c in search rules
 
-mul-result-2 : tie.Need-overflow-mul-result-2
-mul-result-2 c = let f = fit c in search rules
+pub overflow_mul-result-2 : goal.overflow_mul-result-2
+overflow_mul-result-2 c = let f = fit c in search rules
 
-sub-result : tie.Need-overflow-sub-result
-sub-result c =
+pub overflow_sub-result : goal.overflow_sub-result
+overflow_sub-result c =
     let f = fit c in
     simp (back w32 c.ranges.w, back w32 c.ranges.x, back w32 f.m, back w32 f.p, back w32 f.n, back w32 f.q, back w32 f.h) f.d
 
-add-result : tie.Need-overflow-add-result
-add-result c =
+pub overflow_add-result : goal.overflow_add-result
+overflow_add-result c =
     let f = fit c in
     simp (
       back w32 c.ranges.w,
@@ -69,7 +68,7 @@ add-result c =
       back w32 f.d,
     ) f.r
 
-returns : tie.Need-returns
+pub returns : goal.returns
 returns c =
     let f = fit c in
     simp (
@@ -84,6 +83,3 @@ returns c =
       back w32 f.d,
       back w32 f.r,
     )
-
-pub piece-spec : {M : Type 1} → statement M
-piece-spec = tie.close (tie.spec mul-result mul-result-2 sub-result add-result returns)
