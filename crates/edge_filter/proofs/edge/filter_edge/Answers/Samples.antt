@@ -12,14 +12,19 @@ use Rattle.signed.proofs.Range.{inside-abs}
 use Rattle.edge_filter.specs.Filter.{padded, filtered}
 use Rattle.edge_filter.specs.Padded.{entry_at}
 use Rattle.edge_filter.proofs.Filtered.{filtered-sample}
+use Rattle.edge_filter.proofs.edge.filter_edge.Lts as lts
+use Rattle.edge_filter.proofs.edge.filter_edge.Reads as reads
 use Rattle.edge_filter.proofs.edge.filter_edge.Tie as tie
 
-module _ (s : tie.Start) where
+abbrev At-Start : Type 0
+At-Start = lts.Start tie.the-claims reads.Pre reads.Post
+
+module _ (s : At-Start) where
   abbrev pub e : ℕ → ℤ
   e = entry_at s.args.pad.now
 
   pub corner-back : to_z w32 (of_z w32 (e 0)) ≡ e 0
-  corner-back = back-abs w32 (e 0) (omega (arith, inside-abs 4095 (e 0) (s.pre.6.samples 4 (omega arith))))
+  corner-back = back-abs w32 (e 0) (omega (arith, inside-abs 4095 (e 0) (s.requires.6.samples 4 (omega arith))))
 
   abbrev pub g : ℕ → ℤ
   g = filtered s.args.s s.args.lim s.args.n e
@@ -29,6 +34,6 @@ module _ (s : tie.Start) where
 
   pub f-back : (j : ℕ) → to_z w32 (of_z w32 (f j)) ≡ f j
   f-back j =
-      let samples : (i : ℕ) → i ≤ s.args.n → inside (pos 4095) (e i) ≡ true = λ i h. s.pre.6.samples (i + 4) (omega arith) in
-      let p = filtered-sample 4095 s.args.n s.args.s s.args.lim e s.pre.1 samples (min s.args.n (j - 4)) (omega arith) in
+      let samples : (i : ℕ) → i ≤ s.args.n → inside (pos 4095) (e i) ≡ true = λ i h. s.requires.6.samples (i + 4) (omega arith) in
+      let p = filtered-sample 4095 s.args.n s.args.s s.args.lim e s.requires.1 samples (min s.args.n (j - 4)) (omega arith) in
       back-abs w32 (f j) (omega (arith, inside-abs 4095 (f j) p))
