@@ -1,5 +1,4 @@
 -- `Totals::add` meets its contract. Assumes nothing.
-use borrow.Author.Rules.{rules}
 use mathlib.Core.Path.{sym, ◌∙◌, subst}
 use native.Mathlib.Omega.{arith}
 use lib.IntN.{ℤ}
@@ -12,29 +11,19 @@ use Rattle.colour_samples.specs.Nine.{added, TermsMost}
 use Rattle.colour_samples.specs.Took.{TookOne}
 use Rattle.colour_samples.proofs.Low.{low-terms-most}
 use Rattle.colour_samples.proofs.OneSample.{took_one}
-use Rattle.colour_samples.proofs.totals.Totals.add.Statement.{statement}
-use Rattle.colour_samples.proofs.totals.Totals.add.Tie as tie
+use Rattle.colour_samples.proofs.totals.Totals.add.Goals as goal
 
-with-requires : tie.Need-with-requires
-with-requires c κs = search rules
-
-of-requires : tie.Need-of-requires
-of-requires c κs = search rules
-
-low-requires : tie.Need-low-requires
-low-requires c κs = search rules
-
-add-requires : tie.Need-add-requires
-add-requires c κs =
+pub add-requires : goal.add-requires
+add-requires c =
     let s = c.before.before.before.before.before in
     let a = s.args in (
       s.requires.0,
-      subst (TermsMost 4095) (sym c.before.of.ensures)
+      subst (TermsMost 4095) (sym c.of.ensures)
           (low-terms-most a.depth.d s.requires.1.least s.requires.1.largest (to_z w32 (of_z w32 a.v)) (to_z w32 (of_z w32 a.c))),
       omega (arith, c.low.ensures, low-most (of_z w32 (to_z w32 (of_z w32 a.k)))),
     )
 
-returns : tie.Need-returns
+pub returns : goal.returns
 returns c =
     let l = c.before in
     let w = l.before.before in
@@ -43,7 +32,4 @@ returns c =
     let r : Totals = record { seen = w.with.result; sums = c.add.result } in
     subst (λ (t : ℤ × ℤ × ℤ). TookOne a.depth.d t.0 t.1 t.2 a.self r) (λ j. (back w32 s.ranges.v j, back w32 s.ranges.c j, back w32 s.ranges.k j))
     (took_one a.depth.d s.requires.1.least s.requires.1.largest (to_z w32 (of_z w32 a.v)) (to_z w32 (of_z w32 a.c)) (to_z w32 (of_z w32 a.k)) a.self r w.with.ensures.1
-    (c.add.ensures ∙ (λ j. added a.self.sums (l.before.of.ensures j) (l.low.ensures j))))
-
-pub add_spec : {M : Type 1} → statement M
-add_spec = tie.close (tie.spec with-requires of-requires low-requires add-requires returns)
+    (c.add.ensures ∙ (λ j. added a.self.sums (l.of.ensures j) (l.low.ensures j))))
