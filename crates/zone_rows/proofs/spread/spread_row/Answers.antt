@@ -1,0 +1,45 @@
+-- `spread_row` meets its contract. The invariant: the first c samples are written. Assumes nothing.
+use native.Mathlib.Omega.{arith}
+use mathlib.Core.Path.{refl, sym, ◌∙◌}
+use lib.ListN.{length-set}
+use lib.Ieee.{nan}
+use Rattle.lists.proofs.Fill.{filled_none, filled_more, filled-all}
+use Rattle.zone_rows.proofs.spread.spread_row.Goals as goal
+
+pub loop-c-init : goal.loop-c-init
+loop-c-init c = (omega arith, refl, sym (filled_none _ _))
+
+pub overflow_mul-row : goal.overflow_mul-row
+overflow_mul-row c = omega arith
+
+pub overflow_add-row : goal.overflow_add-row
+overflow_add-row c = omega arith
+
+pub offset_bounds-strip-c : goal.offset_bounds-strip-c
+offset_bounds-strip-c c = omega arith
+
+pub bounds-strip-c : goal.bounds-strip-c
+bounds-strip-c c = omega arith
+
+pub offset_bounds-row-c : goal.offset_bounds-row-c
+offset_bounds-row-c c = omega arith
+
+pub bounds-row-c : goal.bounds-row-c
+bounds-row-c c = omega arith
+
+pub overflow_add-c : goal.overflow_add-c
+overflow_add-c c = omega arith
+
+pub loop-c-smaller : goal.loop-c-smaller
+loop-c-smaller c = omega arith
+
+pub loop-c-preserved : goal.loop-c-preserved
+loop-c-preserved c =
+    let k = c.before.before in
+    (omega arith, simp length-set k.loop-c.invariant.1, filled_more k.loop-c.c _ _ _ _ nan (omega arith) k.loop-c.invariant.2 refl)
+
+pub shape_of-row : goal.shape_of-row
+shape_of-row c = c.loop-c.invariant.1
+
+pub returns : goal.returns
+returns c = c.loop-c.invariant.2 ∙ filled-all c.loop-c.c _ _ (omega arith)
