@@ -1,0 +1,28 @@
+-- `smooth_rows` meets its contract. Assumes nothing.
+use lib.IntN.{pos}
+use Rattle.lists.specs.Block.{sample}
+use Rattle.smooth_steps.specs.Parts.{mean}
+use Prim.Native.Nat.{ℕ, ◌≤◌, ◌-◌, ◌*◌}
+use mathlib.Core.Path.{◌≡◌}
+use mathlib.Core.List.{List}
+use lib.ListN.{length, get_or}
+use lib.IntN.{ℤ, pos, nat_abs}
+use lib.Ieee.{Float}
+use Rattle.lists.specs.Fill.{filled}
+use Rattle.lists.specs.Block.{rows, sample}
+use Rattle.smooth_steps.specs.Parts.{edge_at, weighed, mean}
+use Rattle.smooth_rows.proofs.smooth_rows.Given as goal
+
+-- down, and across
+abbrev pub down : ℕ → List ℤ → ℕ → List ℕ → ℕ → ℕ → ℕ
+down bs above e weights r c = weighed bs e (nat_abs (edge_at above c)) (bs - 1 - r) (get_or weights r 0)
+
+abbrev pub at : ℕ → List ℤ → ℕ → List ℤ → ℕ → List ℕ → ℕ → ℕ → Float
+at bs above e left f weights r c = sample (pos (mean (down bs above e weights r c) (down bs left f weights c r)))
+
+abbrev pub invariant-loop-r : goal.invariant-loop-r
+invariant-loop-r l =
+    (l.r ≤ l.bs) × (l.o ≡ l.r * l.bs) × (length l.line ≡ length l.initial.line) × (length l.out ≡ length l.initial.out) × (l.out ≡ filled l.o (rows l.bs (at l.bs l.above l.e l.left l.f l.weights)) l.initial.out)
+
+abbrev pub decreases-loop-r : goal.decreases-loop-r
+decreases-loop-r l = l.bs - l.r
