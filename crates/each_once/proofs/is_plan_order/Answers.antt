@@ -1,10 +1,8 @@
 -- `is_plan_order` meets its contract: the first k entries stand at their own places. Assumes nothing.
-use mathlib.Core.Path.{◌≡◌, sym}
-use Prim.Native.Nat.{ℕ, ◌≤◌, ◌<◌, ◌-◌}
+use mathlib.Core.Path.{sym}
 use native.Mathlib.Omega.{arith}
 use borrow.Author.Rules.{rules}
 use borrow.Author.Count.{below_more}
-use lib.ListN.{length, get_or}
 use Rattle.reorder.proofs.Test.{fails}
 use Rattle.each_once.proofs.InPlace.{own-decides}
 use Rattle.each_once.proofs.is_plan_order.Goals as goal

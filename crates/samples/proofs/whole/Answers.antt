@@ -4,7 +4,6 @@ use Prim.Native.Nat.{◌/◌, ◌^◌, ◌≤◌}
 use native.Mathlib.Omega.{arith}
 use lib.Dec.{T}
 use lib.Ieee.{binary32, fits, to_bits}
-use borrow.Author.Rules.{rules}
 use Rattle.samples.proofs.Digits as W
 use Rattle.samples.proofs.whole.Goals as goal
 

@@ -1,5 +1,4 @@
 -- `ramp` meets its contract: the remainders change nothing, and the sum fits. Assumes nothing.
-use borrow.Author.Rules.{rules}
 use native.Mathlib.Nat.{mod-eq_of_lt, mul-le-mul}
 use native.Mathlib.Omega.{arith}
 use mathlib.Core.Path.{◌≡◌}

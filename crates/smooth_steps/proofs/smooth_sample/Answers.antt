@@ -1,5 +1,4 @@
 -- `smooth_sample` meets its contract: no step wraps, and what it gives is a sample. Assumes nothing.
-use borrow.Author.Rules.{rules}
 use native.Mathlib.Omega.{arith}
 use mathlib.Core.Path.{◌≡◌, ◌∙◌, ap}
 use lib.IntN.{pos}

@@ -1,5 +1,4 @@
 -- `to_sample` meets its contract: so small a number is exact in an f32. Assumes nothing.
-use borrow.Author.Rules.{rules}
 use native.Mathlib.Omega.{arith}
 use mathlib.Core.Path.{◌≡◌, ap}
 use lib.IntN.{pos}

@@ -1,5 +1,4 @@
 -- `scale_of` meets its contract: half of log2 B - 1 is the scale at the five sizes. Assumes nothing.
-use borrow.Author.Rules.{rules}
 use native.Mathlib.Omega.{arith}
 use mathlib.Core.Path.{◌∙◌, ap}
 use Prim.Native.Nat.{◌-◌, ◌/◌}

@@ -1,5 +1,4 @@
 -- `weights_of` meets its contract: the table's rule, at each of the three scales. Assumes nothing.
-use borrow.Author.Rules.{rules}
 use native.Mathlib.Omega.{arith}
 use mathlib.Core.Path.{◌≡◌, sym, ◌∙◌, ap}
 use Rattle.lists.specs.Fill.{tab}

@@ -1,6 +1,5 @@
 -- `filter_strength` meets its contract: the table that the tests lead to. Assumes nothing.
 use Rattle.strength.specs.Strength.{strength}
-use borrow.Author.Rules.{rules}
 use Rattle.strength.proofs.filter_strength.Goals as goal
 
 pub returns-then-smooth : goal.returns-then-smooth

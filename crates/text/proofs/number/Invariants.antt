@@ -1,7 +1,6 @@
 -- `number` meets its contract: it ends, reads inside the text, and no sum wraps. Assumes nothing.
 use Prim.Native.Nat.{◌-◌}
 use lib.ListN.{length}
-use borrow.Author.Rules.{rules}
 use Rattle.text.proofs.number.Given as goal
 
 abbrev pub invariant-loop-i : goal.invariant-loop-i

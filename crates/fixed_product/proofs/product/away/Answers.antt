@@ -6,7 +6,6 @@ use lib.IntN.{ℤ, pos, ◌+ℤ◌}
 use lib.Signed.{shr_z}
 use mir.Syntax.{w32}
 use mir.Val.{SFits}
-use borrow.Author.Rules.{rules}
 use Rattle.signed.proofs.Bound.{Bound, b-abs, b-pos, b-add, b-shr, b-fits, back, back-pos}
 use Rattle.signed.proofs.Naturals.{pow-le}
 use Rattle.fixed_product.proofs.Shift.{shr-fits}

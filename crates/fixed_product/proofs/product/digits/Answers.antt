@@ -4,7 +4,6 @@ use Prim.Native.Nat.{ℕ, ◌+◌}
 use native.Mathlib.Omega.{arith}
 use mir.Syntax.{w32}
 use Rattle.signed.proofs.Bound.{back}
-use borrow.Author.Rules.{rules}
 use Rattle.fixed_product.specs.Product.{ilog2, digits}
 use Rattle.fixed_product.proofs.Shift.{ilog2-le}
 use Rattle.fixed_product.proofs.product.digits.Goals as goal

@@ -3,7 +3,6 @@ use mathlib.Core.Path.{◌≡◌, sym, ap, ◌∙◌, subst}
 use Prim.Native.Nat.{ℕ, ◌-◌, ◌^◌, ◌≤◌, ◌<◌}
 use native.Mathlib.Omega.{arith}
 use mir.Syntax.{w32}
-use borrow.Author.Rules.{rules}
 use Rattle.signed.proofs.Bound.{back}
 use Rattle.fixed_product.specs.Product.{digits}
 use Rattle.fixed_product.proofs.Rounding.{one_shl}

@@ -6,7 +6,6 @@ use lib.IntN.{pos}
 use lib.Signed.{lt_z}
 use mir.Syntax.{w32}
 use mir.Val.{to_z, of_z}
-use borrow.Author.Rules.{rules}
 use Rattle.signed.proofs.Bound.{back}
 use Rattle.fixed_product.proofs.Shift.{Turned, turned, upward}
 use Rattle.fixed_product.proofs.product.magnitude.Goals as goal

@@ -5,7 +5,7 @@ use lib.IntN.{ℤ}
 use lib.Signed.{shr_z}
 use mir.Syntax.{w32}
 use mir.Val.{SFits}
-use borrow.Author.Rules.{rules, sfits_of}
+use borrow.Author.Rules.{sfits_of}
 use Rattle.signed.proofs.Bound.{back}
 use Rattle.fixed_product.specs.Product.{over, narrow, mul_fixed}
 use Rattle.fixed_product.proofs.Shift.{shr-fits}

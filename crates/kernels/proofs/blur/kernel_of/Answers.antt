@@ -1,5 +1,4 @@
 -- `kernel_of` meets its contract: its table is the document's, row by row. Assumes nothing.
-use borrow.Author.Rules.{rules}
 use native.Mathlib.Omega.{arith}
 use mathlib.Core.Path.{◌≡◌, sym, ap}
 use mathlib.Core.List.{[]}

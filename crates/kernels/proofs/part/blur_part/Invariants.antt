@@ -1,21 +1,12 @@
 -- `blur_part` meets its contract: each entry is five of the other list by the kernel. Assumes nothing.
-use native.Mathlib.Omega.{arith}
-use mathlib.Core.Path.{refl, sym, ◌∙◌}
-use lib.ListN.{length, length-set}
+use lib.ListN.{length}
 use lib.IntN.{pos}
-use mir.Facts.{to_z-of_z}
-use Rattle.lists.specs.Fill.{tab}
-use Rattle.lists.proofs.Fill.{filled_none, filled_more, filled-all}
-use Prim.Native.Nat.{ℕ, ◌≤◌, ◌<◌, ◌+◌, ◌-◌}
+use Prim.Native.Nat.{ℕ, ◌≤◌, ◌-◌}
 use mathlib.Core.Path.{◌≡◌}
 use mathlib.Core.List.{List}
 use lib.ListN.{length, get_or}
-use lib.IntN.{ℤ, pos, nat_abs}
-use mir.Syntax.{w32}
-use mir.Val.{to_z, of_z}
+use lib.IntN.{ℤ, pos}
 use Rattle.lists.specs.Fill.{filled}
-use Rattle.signed.proofs.Bound.{back-abs}
-use Rattle.signed.proofs.Range.{inside-abs}
 use Rattle.kernels.specs.Kernel.{five}
 use Rattle.kernels.proofs.part.blur_part.Given as goal
 

@@ -1,15 +1,9 @@
 -- `copy_part` meets its contract. The invariant: the first i entries are written. Assumes nothing.
 use Prim.Native.Nat.{◌≤◌, ◌-◌}
-use native.Mathlib.Omega.{arith}
-use mathlib.Core.Path.{◌≡◌, refl, sym, ◌∙◌}
-use lib.ListN.{length, get_or, length-set}
+use mathlib.Core.Path.{◌≡◌}
+use lib.ListN.{length, get_or}
 use lib.IntN.{pos}
-use mir.Syntax.{w32}
-use mir.Val.{to_z, of_z}
 use Rattle.lists.specs.Fill.{filled}
-use Rattle.signed.proofs.Bound.{back-abs}
-use Rattle.signed.proofs.Range.{inside-abs}
-use Rattle.lists.proofs.Fill.{filled_none, filled_more, filled-all}
 use Rattle.kernels.proofs.part.copy_part.Given as goal
 
 abbrev pub invariant-loop-i : goal.invariant-loop-i

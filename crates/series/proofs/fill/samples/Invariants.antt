@@ -2,7 +2,6 @@
 use mathlib.Core.Path.{◌≡◌}
 use Prim.Native.Nat.{◌-◌, ◌≤◌}
 use lib.ListN.{length}
-use borrow.Author.Rules.{rules}
 use Rattle.series.proofs.fill.samples.Given as goal
 
 abbrev pub invariant-loop-c : goal.invariant-loop-c

@@ -5,7 +5,6 @@ use lib.Dec.{T}
 use lib.Ieee.{binary32, nan_bits}
 use lib.Ieee.Bits.{nan_bits_above}
 use borrow.Author.Tests.{le-ltb}
-use borrow.Author.Rules.{rules}
 use Rattle.series.proofs.kind.float_of.Goals as goal
 
 pub float_from_bits-result : goal.float_from_bits-result

@@ -3,7 +3,6 @@ use Prim.Native.Nat.{◌%◌}
 use native.Mathlib.Omega.{arith}
 use lib.IntN.{pos}
 use mir.Syntax.{w32}
-use borrow.Author.Rules.{rules}
 use Rattle.signed.proofs.Bound.{back-pos, exact}
 use Rattle.series.proofs.kind.sample.Goals as goal
 

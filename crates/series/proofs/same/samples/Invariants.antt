@@ -1,7 +1,6 @@
 -- `samples` meets its contract: it ends, and reads inside the list. Assumes nothing.
 use Prim.Native.Nat.{◌-◌, ◌≤◌}
 use lib.ListN.{length}
-use borrow.Author.Rules.{rules}
 use Rattle.series.proofs.same.samples.Given as goal
 
 abbrev pub invariant-loop-c : goal.invariant-loop-c

@@ -1,5 +1,4 @@
 -- `chroma_sample` meets its contract: what is clipped is small, so the cast is exact. Assumes nothing.
-use borrow.Author.Rules.{rules}
 use native.Mathlib.Omega.{arith}
 use mathlib.Core.Path.{◌≡◌, ◌∙◌, ap}
 use Prim.Native.Nat.{◌≤◌}

@@ -1,5 +1,5 @@
 -- `clipped` meets its contract: the two steps are the definition's, since m is not below 0. Assumes nothing.
-use borrow.Author.Rules.{rules, sfits_of}
+use borrow.Author.Rules.{sfits_of}
 use mathlib.Core.Path.{◌≡◌, ◌∙◌}
 use mathlib.Core.Bool.{cond}
 use lib.IntN.{pos}

@@ -1,5 +1,4 @@
 -- `four` meets its contract: a bound for each product and each sum, by which it fits, and is read back as it was. Assumes nothing.
-use borrow.Author.Rules.{rules}
 use mathlib.Core.Path.{◌≡◌}
 use lib.IntN.{ℤ, pos, ◌+ℤ◌, ◌*ℤ◌}
 use lib.Signed.{shr_z}

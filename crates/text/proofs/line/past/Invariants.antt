@@ -1,6 +1,5 @@
 -- `past` meets its contract: it ends. Assumes nothing.
 use Prim.Native.Nat.{◌-◌}
-use borrow.Author.Rules.{rules}
 use Rattle.text.proofs.line.past.Given as goal
 
 abbrev pub invariant-loop-c : goal.invariant-loop-c

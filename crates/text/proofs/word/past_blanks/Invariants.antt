@@ -1,7 +1,6 @@
 -- `past_blanks` meets its contract: it ends, and reads inside the text. Assumes nothing.
 use Prim.Native.Nat.{◌-◌}
 use lib.ListN.{length}
-use borrow.Author.Rules.{rules}
 use Rattle.text.proofs.word.past_blanks.Given as goal
 
 abbrev pub invariant-loop-i : goal.invariant-loop-i

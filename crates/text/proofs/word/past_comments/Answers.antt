@@ -1,6 +1,4 @@
 -- `past_comments` meets its contract: it ends, and reads inside the text. Assumes nothing.
-use Prim.Native.Nat.{◌-◌}
-use lib.ListN.{length}
 use native.Mathlib.Omega.{arith}
 use borrow.Author.Rules.{rules}
 use Rattle.text.proofs.word.past_comments.Goals as goal

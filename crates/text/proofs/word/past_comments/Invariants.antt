@@ -1,8 +1,6 @@
 -- `past_comments` meets its contract: it ends, and reads inside the text. Assumes nothing.
 use Prim.Native.Nat.{◌-◌}
 use lib.ListN.{length}
-use native.Mathlib.Omega.{arith}
-use borrow.Author.Rules.{rules}
 use Rattle.text.proofs.word.past_comments.Given as goal
 
 abbrev pub invariant-loop-i : goal.invariant-loop-i

@@ -1,18 +1,14 @@
 -- The loop of `blur_part`: its invariant, that the first i entries are written; and the five entries that the next one is made of are samples.
 -- Assumes nothing.
-use Prim.Native.Nat.{ℕ, ◌≤◌, ◌<◌, ◌+◌, ◌-◌}
+use Prim.Native.Nat.{ℕ, ◌≤◌, ◌<◌, ◌+◌}
 use native.Mathlib.Omega.{arith}
 use mathlib.Core.Path.{◌≡◌}
-use mathlib.Core.List.{List}
 use lib.ListN.{length, get_or}
 use lib.IntN.{ℤ, pos, nat_abs}
 use mir.Syntax.{w32}
 use mir.Val.{to_z, of_z}
-use Rattle.lists.specs.Fill.{filled}
 use Rattle.signed.proofs.Bound.{back-abs}
 use Rattle.signed.proofs.Range.{inside-abs}
-use Rattle.kernels.specs.Kernel.{five}
-use Rattle.kernels.proofs.part.blur_part.Invariants.{row_of}
 use Rattle.kernels.proofs.part.blur_part.Goals as goal
 
 module _ (c : goal.In-loop-i) where

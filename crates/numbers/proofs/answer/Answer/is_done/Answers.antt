@@ -1,7 +1,6 @@
 -- `Answer::is_done` meets its contract. Assumes nothing.
 use mathlib.Core.Path.{ap₂}
 use lib.Dec.{eqb}
-use borrow.Author.Rules.{rules}
 use Rattle.numbers.specs.Answer.{is_done}
 use Rattle.numbers.proofs.answer.Answer.is_done.Goals as goal
 

@@ -1,5 +1,4 @@
 -- `ColourDirection::named` meets its contract. Assumes nothing.
-use borrow.Author.Rules.{rules}
 use mathlib.Core.Path.{sym, ◌∙◌, ap}
 use Rattle.numbers.specs.Colour.{or_centre}
 use Rattle.numbers.proofs.colour.ColourDirection.named.Goals as goal

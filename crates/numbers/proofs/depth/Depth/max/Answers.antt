@@ -2,7 +2,6 @@
 use mathlib.Core.Path.{sym, ap}
 use lib.IntN.{pos}
 use Rattle.numbers.specs.Depth.{bits_of, most}
-use borrow.Author.Rules.{rules}
 use Rattle.numbers.proofs.depth.Depth.max.Goals as goal
 
 pub returns-in-Eight : goal.returns-in-Eight

@@ -2,7 +2,6 @@
 use mathlib.Core.Path.{sym, ap}
 use lib.IntN.{pos}
 use Rattle.row_words.specs.Dir.{degrees_of}
-use borrow.Author.Rules.{rules}
 use Rattle.row_words.proofs.dir.Dir.angle.Goals as goal
 
 pub returns-in-Vertical : goal.returns-in-Vertical

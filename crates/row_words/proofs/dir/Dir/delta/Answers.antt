@@ -6,7 +6,6 @@ use lib.IntN.{pos, ◌-ℤ◌}
 use mir.Facts.{to_z-of_z}
 use mir.Syntax.{w32}
 use mir.Val.{SFits, to_z}
-use borrow.Author.Rules.{rules}
 use borrow.Author.Tests.{leb-true}
 use Rattle.signed.proofs.Bound.{abs-sub, sfits-abs, back-pos}
 use Rattle.row_words.specs.Dir.{is_delta, delta_of}

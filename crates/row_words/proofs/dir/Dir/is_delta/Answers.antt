@@ -1,7 +1,6 @@
 -- `Dir::is_delta` meets its contract. Assumes nothing.
 use native.Mathlib.Omega.{arith}
 use mir.Syntax.{w32}
-use borrow.Author.Rules.{rules}
 use Rattle.signed.proofs.Bound.{back-pos}
 use Rattle.row_words.specs.Dir.{is_delta}
 use Rattle.row_words.proofs.dir.Dir.is_delta.Goals as goal

@@ -7,7 +7,7 @@ use lib.Signed.{non_neg}
 use mir.Facts.{to_z-of_z}
 use mir.Syntax.{w32}
 use mir.Val.{SFits, to_z, of_z}
-use borrow.Author.Rules.{rules, sfits_of}
+use borrow.Author.Rules.{sfits_of}
 use Rattle.signed.proofs.Bound.{sfits-abs, back, back-abs}
 use Rattle.row_words.specs.Dir.{angle_of}
 use Rattle.row_words.proofs.Angle.{step_small, angle-pos, angle-range}

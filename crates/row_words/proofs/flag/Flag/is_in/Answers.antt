@@ -4,7 +4,6 @@ use mathlib.Core.Path.{◌∙◌, ap}
 use Prim.Native.Nat.{◌<◌, ◌/◌, ◌^◌}
 use lib.Bits.{bit_and, and_mask}
 use lib.Dec.{eqb}
-use borrow.Author.Rules.{rules}
 use Rattle.row_words.specs.Flag.{flag_bit, is_set}
 use Rattle.row_words.specs.declared.flag.Flag.{Flag}
 use Rattle.row_words.specs.declared.flag.Flag.TheVariants.{Above, Left, Luma, EdgeFilter, SmoothNeighbour}

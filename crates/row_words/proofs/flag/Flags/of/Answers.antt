@@ -1,5 +1,4 @@
 -- `Flags::of` meets its contract: each field is its own flag. Assumes nothing.
-use borrow.Author.Rules.{rules}
 use Rattle.row_words.proofs.flag.Flags.of.Goals as goal
 
 pub returns : goal.returns

@@ -1,5 +1,4 @@
 -- `Mode::of` meets its contract: each arm is the mode of its number. Assumes nothing.
-use borrow.Author.Rules.{rules}
 use borrow.Author.Tests.{ne_eqb}
 use mathlib.Core.Path.{◌∙◌}
 use Rattle.row_words.specs.Mode.{named_mode}
