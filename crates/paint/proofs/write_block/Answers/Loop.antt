@@ -9,27 +9,23 @@ use lib.IntN.{ℤ, pos}
 use lib.Seq.{get_or-take, get_or-drop}
 use borrow.Rule.Slice.PartMut.{put_mid}
 use lib.Ieee.{Float, nan}
-use mir.Syntax.{w32}
-use mir.Val.{to_z}
 use Rattle.lists.specs.Fill.{tab}
 use Rattle.lists.proofs.Fill.{length-tab, tab-at}
 use Rattle.lists.proofs.Block.{part_length}
 use Rattle.paint.specs.Block.{with_difference, added_at}
 use Rattle.paint.specs.Painted.{painted}
 use Rattle.paint.proofs.RowByRow.{rows_of, painted-row}
+use Rattle.paint.proofs.write_block.Invariants.{at}
+use Rattle.paint.proofs.write_block.Goals as goal
+use Rattle.paint.proofs.write_block.Lts as lts
+use Rattle.paint.proofs.write_block.Reads as reads
 use Rattle.paint.proofs.write_block.Tie as tie
 
--- the sample at row r and column c of the block
-abbrev pub at : ℤ → List Float → List ℤ → ℕ → ℕ → ℕ → Float
-at m block differences bs r c = added_at m block differences (r * bs + c)
+abbrev At-Start : Type 0
+At-Start = lts.Start tie.the-claims reads.Pre reads.Post goal.the-invariant-loop-r goal.the-decreases-loop-r tie.handed_clauses
 
-abbrev pub Inv-loop : tie.invariant-loop
-Inv-loop plane₀ width x y bs m block differences o₀ k₀ r₀ plane o k r =
-    (r ≤ bs) × (o ≡ (y + r) * width + x) × (k ≡ r * bs) × (length plane ≡ length plane₀)
-    × (plane ≡ painted width (rows_of x y bs r) (at (to_z w32 m) block differences bs) plane₀)
-
-abbrev pub μ-loop : tie.decreases-loop
-μ-loop plane₀ width x y bs m block differences o₀ k₀ r₀ plane o k r = bs - r
+abbrev At-In-loop-r : Type 0
+At-In-loop-r = lts.In-loop tie.the-claims reads.Pre reads.Post goal.the-invariant-loop-r goal.the-decreases-loop-r tie.handed_clauses
 
 -- an entry of a part that is lent
 pub part_at : {A : Type 0} (m n : ℕ) (xs : List A) (i : ℕ) (d : A) → i < n → get_or (take (m + n - m) (drop m xs)) i d ≡ get_or xs (m + i) d
@@ -55,21 +51,21 @@ again W x y bs r o k m block differences plane₀ plane row wide eo ek el ep roo
     long = ap length er ∙ length-tab _ _ ∙ part_length o bs plane room
 
 -- the block's first place
-pub first : (s : tie.Start Inv-loop μ-loop) → s.args.y * s.args.width + s.args.x + s.args.bs ≤ 16777216
-first s = let g = s.requires.0.0 in omega (arith, g.small, rw add-zero at (g.lies 0 (omega (arith, g.some))))
+pub first : (s : At-Start) → s.args.y * s.args.width + s.args.x + s.args.bs ≤ 16777216
+first s = let g = s.requires.room.0 in omega (arith, g.small, rw add-zero at (g.lies 0 (omega (arith, g.some))))
 
-module _ (c : tie.In-loop Inv-loop μ-loop) where
-  abbrev pub start : tie.Start Inv-loop μ-loop
+module _ (c : At-In-loop-r) where
+  abbrev pub start : At-Start
   start = c.before.before.before.before
 
-  pub room : c.before.loop.o + start.args.bs ≤ length c.before.loop.plane
-  room = omega (arith, start.pre.0.0.lies c.before.loop.r c.loop-test.true)
+  pub room : c.loop-r.o + start.args.bs ≤ length c.loop-r.plane
+  room = omega (arith, start.requires.room.0.lies c.loop-r.r c.loop-r-test.true)
 
-  pub near : c.before.loop.o + start.args.bs ≤ 16777216
-  near = omega (arith, room, start.pre.0.0.small)
+  pub near : c.loop-r.o + start.args.bs ≤ 16777216
+  near = omega (arith, room, start.requires.room.0.small)
 
-  pub lent : (c.before.loop.k + start.args.bs ≤ length start.args.block.now) × (c.before.loop.k + start.args.bs ≤ length start.args.differences.now)
-  lent = let h = mul-le-mul_right start.args.bs c.loop-test.true in (omega arith, omega arith)
+  pub lent : (c.loop-r.k + start.args.bs ≤ length start.args.block.now) × (c.loop-r.k + start.args.bs ≤ length start.args.differences.now)
+  lent = let h = mul-le-mul_right start.args.bs c.loop-r-test.true in (omega arith, omega arith)
 
-  pub few : c.before.loop.k + start.args.bs ≤ 4096
-  few = let g = start.pre.0.0 in omega (arith, mul-le-mul_right start.args.bs c.loop-test.true, mul-le-mul g.side g.side)
+  pub few : c.loop-r.k + start.args.bs ≤ 4096
+  few = let g = start.requires.room.0 in omega (arith, mul-le-mul_right start.args.bs c.loop-r-test.true, mul-le-mul g.side g.side)
