@@ -1,5 +1,5 @@
 -- "`build_refs` tests 20, 1, 2, 4, 5, 6, 9, 8".
-use Rattle.std.specs.Prelude.{Bool, ◌&&◌, List, [], ◌∷◌, ◌++◌, ℕ, leb, Float, length}
+use Rattle.std.specs.Prelude.{Bool, ◌&&◌, List, ◌∷◌, ◌++◌, ℕ, leb, Float, length}
 use Rattle.numbers.specs.Limits.{ref_cap}
 use Rattle.numbers.specs.declared.answer.Answer.{Answer}
 use Rattle.numbers.specs.declared.answer.Answer.TheVariants.{BadPlane, ShortList}
