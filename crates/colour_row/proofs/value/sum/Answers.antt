@@ -1,5 +1,5 @@
 -- `sum` meets its contract: three numbers within 2^29 add up within 2^31, and one clip is as good as two. Assumes nothing.
-use borrow.Author.Rules.{rules, sfits_of}
+use borrow.Author.Rules.{sfits_of}
 use mathlib.Core.Path.{◌∙◌, ap}
 use Prim.Native.Nat.{◌^◌}
 use lib.IntN.{ℤ, pos, ◌+ℤ◌}
@@ -10,10 +10,15 @@ use Rattle.signed.proofs.Bound.{b-abs, b-add, b-fits, back}
 use Rattle.colour_row.specs.Sample.{clip_to}
 use Rattle.colour_row.proofs.Held.{max=}
 use Rattle.colour_row.proofs.Laws.{clip-is}
-use Rattle.colour_row.proofs.value.sum.Statement.{statement}
+use Rattle.colour_row.proofs.value.sum.Goals as goal
+use Rattle.colour_row.proofs.value.sum.Lts as lts
+use Rattle.colour_row.proofs.value.sum.Reads as reads
 use Rattle.colour_row.proofs.value.sum.Tie as tie
 
-module _ (c : tie.Start) where
+abbrev At-Start : Type 0
+At-Start = lts.Start tie.the-claims reads.Pre reads.Post
+
+module _ (c : At-Start) where
   abbrev x : ℤ
   x = c.args.x
 
@@ -32,22 +37,16 @@ module _ (c : tie.Start) where
   third-fits : SFits w32 third
   third-fits = b-fits w32 (b-abs {m = 2 ^ 29} {z = third} c.requires.0.third) tt
 
-add-clip : tie.Need-overflow-add-clip
-add-clip c = simp (to_z-of_z, c.ranges.x, c.ranges.y) (two c)
+pub overflow_add-x : goal.overflow_add-x
+overflow_add-x c = simp (to_z-of_z, c.ranges.x, c.ranges.y) (two c)
 
-add-clip-2 : tie.Need-overflow-add-clip-2
-add-clip-2 c = let s = c.before.before in simp (to_z-of_z, s.ranges.x, s.ranges.y, two s, third-fits s) (three s)
+pub overflow_add-x-2 : goal.overflow_add-x-2
+overflow_add-x-2 c = let s = c.before.before.before in simp (to_z-of_z, s.ranges.x, s.ranges.y, two s, third-fits s) (three s)
 
-clip-requires : tie.Need-clip-requires
-clip-requires c κs = search rules
-
-returns : tie.Need-returns
+pub returns : goal.returns
 returns c =
     let s = c.before.before.before.before in
-    back w32 {z = c.clip.result} (sfits_of c.clip.type-inv)
+    back w32 {z = c.clip.result} (sfits_of c.clip.type_inv)
     ∙ (simp (to_z-of_z, s.ranges.x, s.ranges.y, two s, third-fits s, three s, max= s.args.k s.requires.0) at c.clip.ensures)
     ∙ ap (λ m. clip_to (pos 0) m (x s +ℤ y s +ℤ third s)) s.requires.0.max
     ∙ clip-is s.args.k.bits _ s.requires.0.depth
-
-pub sum-spec : {M : Type 1} → statement M
-sum-spec = tie.close (tie.spec add-clip add-clip-2 clip-requires returns)

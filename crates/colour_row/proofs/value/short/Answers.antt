@@ -11,10 +11,9 @@ use Rattle.fixed_product.specs.Product.{mul_fixed}
 use Rattle.fixed_product.proofs.Short.{short}
 use Rattle.product_table.proofs.Served.{half-small}
 use Rattle.colour_row.proofs.Laws.{short-is}
-use Rattle.colour_row.proofs.value.short.Statement.{statement}
-use Rattle.colour_row.proofs.value.short.Tie as tie
+use Rattle.colour_row.proofs.value.short.Goals as goal
 
-module _ (c : tie.Start) where
+module _ (c : goal.Start) where
   abbrev a : ℤ
   a = c.args.a
 
@@ -27,18 +26,15 @@ module _ (c : tie.Start) where
   sum : Bound (2 ^ 29 + 32768) (a *ℤ n +ℤ c.args.half)
   sum = b-add product (b-abs (subst (λ z. nat_abs z ≤ 32768) (sym c.requires.2) (half-small a)))
 
-mul-result : tie.Need-overflow-mul-result
-mul-result c = simp (to_z-of_z, c.ranges.a, c.ranges.n) (b-fits w32 (product c) tt)
+pub overflow_mul-result : goal.overflow_mul-result
+overflow_mul-result c = simp (to_z-of_z, c.ranges.a, c.ranges.n) (b-fits w32 (product c) tt)
 
-add-result : tie.Need-overflow-add-result
-add-result c = simp (to_z-of_z, c.ranges.a, c.ranges.n, c.ranges.half, b-fits w32 (product c) tt) (b-fits w32 (sum c) tt)
+pub overflow_add-result : goal.overflow_add-result
+overflow_add-result c = simp (to_z-of_z, c.ranges.a, c.ranges.n, c.ranges.half, b-fits w32 (product c) tt) (b-fits w32 (sum c) tt)
 
-returns : tie.Need-returns
+pub returns : goal.returns
 returns c =
     simp (to_z-of_z, c.ranges.a, c.ranges.n, c.ranges.half, b-fits w32 (product c) tt, b-fits w32 (sum c) tt, b-fits w32 (b-shr 65536 (sum c)) tt)
     ((λ j. shr_z (a c *ℤ c.requires.0 j +ℤ c.requires.2 j) 65536)
     ∙ short-is (a c) (nat_abs (n c)) c.ranges.a c.requires.1
     ∙ ap (λ z. mul_fixed (a c) z 16) (sym c.requires.0))
-
-pub short-spec : {M : Type 1} → statement M
-short-spec = tie.close (tie.spec mul-result add-result returns)
