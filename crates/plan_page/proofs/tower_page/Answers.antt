@@ -1,0 +1,17 @@
+-- `tower_page` meets its contract: request (v)'s numbers fit, and so do the lists that are lent. Assumes nothing.
+use borrow.Author.Rules.{rules}
+use mathlib.Core.Path.{sym}
+use lib.Seq.{length-take-le}
+use Rattle.block_image.specs.Image.{tower_format}
+use Rattle.block_image.proofs.Fits.{tower-fits}
+use Rattle.plan_page.proofs.Reading.{page-at}
+use Rattle.plan_page.proofs.tower_page.Goals as goal
+
+pub put_page-requires : goal.put_page-requires
+put_page-requires c = let f = c.tower.ensures in rw f (tower-fits, search rules, search rules)
+
+pub returns : goal.returns
+returns c =
+    let p = rw c.tower.ensures at c.put_page.ensures in
+    let b = page-at tower_format c.args.bytes.now c.args.plan.now c.args.out.now c.put_page.new.plan c.put_page.new.out c.put_page.result p in
+    record { prefix_len = (b.0, sym (length-take-le c.put_page.result _ b.0)); out_after = b.1; show_page = p }
