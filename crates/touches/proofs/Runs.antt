@@ -8,7 +8,6 @@ use Rattle.signed.proofs.Range.{and_both}
 use Rattle.edge_line.specs.Along.{along}
 use Rattle.edge_line.proofs.Along.{along-here, along-far, along-in}
 use Rattle.edge_line.proofs.Every.{and-of}
-use Rattle.block_spec.specs.Behind.{place}
 use Rattle.block_spec.specs.declared.spec.IntraRefSpec.{IntraRefSpec}
 use Rattle.block_spec.proofs.Behind.{neighbours, above-there, above-by-left, above-by-base, left_there, left-by-above, left-by-base}
 use Rattle.block_spec.proofs.Behind.{corner-by-both, corner-by-above, corner-by-left, corner-by-base}
