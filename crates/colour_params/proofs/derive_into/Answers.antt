@@ -1,6 +1,6 @@
 -- `derive_into` meets its contract: a refusal returns before any store, and a window that is accepted has room for three. Assumes nothing.
 use borrow.Author.Rules.{sfits_of}
-use borrow.Author.Tests.{not-true, not-false, leb-true}
+use borrow.Author.Tests.{leb-true}
 use native.Mathlib.Omega.{arith}
 use mathlib.Core.Path.{◌≡◌, sym, ◌∙◌, ap}
 use mathlib.Core.Bool.{true}
@@ -41,14 +41,14 @@ module _ (c : At-Else-not-is_done) where
   s = c.before.before.before
 
   done : is_done c.derive-r.result.answer ≡ true
-  done = sym c.is_done.ensures ∙ not-false c.is_done.result c.if-not-is_done.false-raw
+  done = sym c.is_done.ensures ∙ c.if-not-is_done.false
 
   long : 3 ≤ length s.args.params.now
   long = leb-true _ _ (room-kept _ _ _ _ _ _ (sym (answer-is c.before.before) ∙ done-is _ done))
 
 pub returns-then-not-is_done : goal.returns-then-not-is_done
 returns-then-not-is_done c =
-    refused _ _ (answer-is c.before.before) (sym c.is_done.ensures ∙ not-true c.is_done.result c.if-not-is_done.true-raw)
+    refused _ _ (answer-is c.before.before) (sym c.is_done.ensures ∙ c.if-not-is_done.true)
 
 pub bounds-params-0 : goal.bounds-params-0
 bounds-params-0 c = omega (arith, long c.before.before.before.before)
