@@ -1,23 +1,14 @@
 -- `all_samples` meets its contract. The invariant: ok tells of the first j rows, and o is where row j starts. Assumes nothing.
 use Prim.Native.Nat.{ℕ, ◌+◌, ◌-◌, ◌*◌, ◌≤◌}
-use native.Mathlib.Nat.{add-mul}
-use native.Mathlib.Numerals.{add-one}
-use native.Mathlib.Omega.{arith}
-use mathlib.Core.Path.{◌≡◌, refl, sym, ◌∙◌, ap}
-use mathlib.Core.Bool.{Bool, ◌&&◌}
+use mathlib.Core.Path.{◌≡◌}
+use mathlib.Core.Bool.{Bool}
 use mathlib.Core.List.{List}
 use lib.IntN.{ℤ}
 use lib.Ieee.{Float, nan}
 use lib.ListN.{get_or}
-use mir.Syntax.{w32}
-use mir.Val.{to_z}
-use mir.Facts.{to_z-of_z}
 use Rattle.samples.specs.Sample.{is_sample}
 use Rattle.edge_line.specs.Every.{every}
-use Rattle.edge_line.specs.Run.{run_at}
-use Rattle.edge_line.proofs.Every.{every-same}
 use Rattle.plane_windows.specs.Lies.{place_at}
-use Rattle.plane_windows.proofs.Lies.{size-most, row-end, start-most, first-most}
 use Rattle.plane_windows.proofs.range.all_samples.Given as goal
 
 -- the test of row j

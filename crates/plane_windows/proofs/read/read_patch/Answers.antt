@@ -2,7 +2,7 @@
 use Prim.Native.Nat.{ℕ, ◌+◌, ◌-◌, ◌*◌, ◌≤◌, ◌<◌}
 use native.Mathlib.Nat.{add-mul}
 use native.Mathlib.Omega.{arith}
-use mathlib.Core.Path.{◌≡◌, refl, sym, ◌∙◌, ap, subst}
+use mathlib.Core.Path.{◌≡◌, ◌∙◌, ap, subst}
 use mathlib.Core.List.{List}
 use lib.IntN.{ℤ, pos, nat_abs}
 use lib.Ieee.{Float, nan}
@@ -10,15 +10,14 @@ use lib.ListN.{length, get_or, take, drop}
 use mir.Syntax.{w32}
 use mir.Val.{to_z, of_z}
 use borrow.Rule.Slice.PartMut.{put_mid}
-use Rattle.signed.proofs.Bound.{back}
 use Rattle.lists.specs.Fill.{tab}
 use Rattle.lists.proofs.Fill.{length-tab, tab-at}
 use Rattle.lists.proofs.Block.{part_length}
 use Rattle.samples.specs.Sample.{reading, Readable}
 use Rattle.colour_terms.specs.Terms.{stride}
 use Rattle.plane_windows.specs.Into.{read_at, Into}
-use Rattle.plane_windows.proofs.Lies.{part_at, row-end, size-most}
-use Rattle.plane_windows.proofs.Into.{into-row, into-none}
+use Rattle.plane_windows.proofs.Lies.{part_at, row-end}
+use Rattle.plane_windows.proofs.Into.{into-row}
 use Rattle.plane_windows.proofs.read.read_patch.Goals as goal
 
 -- a row that comes back is one more row of the rectangle

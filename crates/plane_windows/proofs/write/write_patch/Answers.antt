@@ -1,6 +1,6 @@
 -- `write_patch` meets its contract. The invariant: the first r rows are written, o is the place of row r, and k is r w. Assumes nothing.
 use Prim.Native.Nat.{ℕ, ◌+◌, ◌-◌, ◌*◌, ◌≤◌}
-use native.Mathlib.Nat.{add-mul, mul-le-mul, mul-le-mul_right}
+use native.Mathlib.Nat.{add-mul, mul-le-mul_right}
 use native.Mathlib.Omega.{arith}
 use mathlib.Core.Path.{◌≡◌, refl, sym, ◌∙◌, ap}
 use mathlib.Core.List.{List}
@@ -15,7 +15,7 @@ use Rattle.lists.proofs.Block.{part_length}
 use Rattle.paint.specs.Painted.{painted}
 use Rattle.paint.proofs.Middle.{mid-length}
 use Rattle.paint.proofs.RowByRow.{rows_of, painted-none, painted-row}
-use Rattle.plane_windows.proofs.Lies.{part_at, row-end, size-most}
+use Rattle.plane_windows.proofs.Lies.{part_at, row-end}
 use Rattle.plane_windows.proofs.write.write_patch.Invariants.{at}
 use Rattle.plane_windows.proofs.write.write_patch.Goals as goal
 

@@ -1,6 +1,6 @@
 -- `write_row` meets its contract. The invariant: the first i samples are written. Assumes nothing.
 use native.Mathlib.Omega.{arith}
-use mathlib.Core.Path.{◌≡◌, refl, sym, ap}
+use mathlib.Core.Path.{refl, sym, ap}
 use lib.IntN.{pos}
 use lib.Ieee.{nan}
 use lib.ListN.{get_or, length-set}
