@@ -13,7 +13,7 @@ use Rattle.clash.specs.Hull.{only_if}
 use Rattle.clash.specs.Rects.{HullFits}
 use Rattle.order.specs.Sides.{sides_of}
 use Rattle.order.specs.Window.{Searched}
-use Rattle.order.specs.declared.sides.Sides.{Sides}
+use Rattle.order.specs.declared.bound_lists.Sides.{Sides}
 use Rattle.clash.proofs.Placed.{placed_of}
 
 module _ (W H n : ℕ) (part : Row) (on : Bool) (s : IntraRefSpec) (p : on ≡ stands W H n part) (q : s ≡ spec_of part) where

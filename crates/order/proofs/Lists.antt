@@ -14,7 +14,7 @@ use borrow.Author.Tests.{ltb-true, lt-ltb, le-ltb}
 use Rattle.signed.proofs.Range.{and_both}
 use Rattle.reorder.specs.Rect.{Rect, meet_b}
 use Rattle.order.specs.Sides.{sides_of, bounds_at, overlap, met, any_met, noted}
-use Rattle.order.specs.declared.sides.Sides.{Sides}
+use Rattle.order.specs.declared.bound_lists.Sides.{Sides}
 
 pub neither : (a b : Bool) → (a || b) ≡ false → (a ≡ false) × (b ≡ false)
 neither true b e = absurd (true≢false e)

@@ -17,7 +17,7 @@ use Rattle.touches.specs.Rects.{clash_of}
 use Rattle.order.specs.Rules.{is_kept}
 use Rattle.order.specs.Sides.{block_sides, hull_sides, noted}
 use Rattle.order.specs.Window.{Searched, Walk}
-use Rattle.order.specs.declared.sides.Sides.{Sides}
+use Rattle.order.specs.declared.bound_lists.Sides.{Sides}
 use Rattle.clash.proofs.Meets.{clash-turned}
 use Rattle.order.proofs.Entries.{jobs-in}
 use Rattle.order.proofs.Lists.{noted-at, noted_other}

@@ -5,7 +5,7 @@ use Rattle.std.specs.Int.Signed.{lt_z}
 use Rattle.reorder.specs.Rect.{Rect}
 use Rattle.job.specs.Row.{Row}
 use Rattle.clash.specs.Hull.{block_for, hull_for}
-use Rattle.order.specs.declared.sides.Sides.{Sides}
+use Rattle.order.specs.declared.bound_lists.Sides.{Sides}
 
 -- the bounds of a rectangle
 abbrev pub sides_of : Rect → Sides

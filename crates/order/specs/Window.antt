@@ -4,7 +4,7 @@ use Rattle.reorder.specs.Check.{once_b}
 use Rattle.job.specs.Row.{row_at}
 use Rattle.touches.specs.Rects.{clash_of}
 use Rattle.order.specs.Sides.{block_sides, hull_sides, met, noted}
-use Rattle.order.specs.declared.sides.Sides.{Sides}
+use Rattle.order.specs.declared.bound_lists.Sides.{Sides}
 
 -- the block b meets row j's hull, or the hull h its block
 abbrev pub Touch : List ℤ → List ℤ → Sides → Sides → ℕ → Type 0

@@ -6,8 +6,8 @@ ghost use Rattle.clash.specs.Hull.{one, past, hull_of, only_if};
 ghost use Rattle.clash.specs.Rects.{rect_of, Near, HullFits};
 ghost use Rattle.order.specs.Sides.{sides_of};
 
-use crate::sides;
-use crate::sides::Sides;
+use crate::bound_lists;
+use crate::bound_lists::Sides;
 use block_spec::spec::IntraRefSpec;
 use clash::hits;
 use clash::rect::Rect;
@@ -62,7 +62,7 @@ pub fn block_sides(on: bool, s: IntraRefSpec) -> Sides
     if !on {
         return none();
     }
-    sides::sides_of(hits::square(s))
+    bound_lists::sides_of(hits::square(s))
 }
 
 // The bounds of the hull.
@@ -73,5 +73,5 @@ pub fn hull_sides(on: bool, s: IntraRefSpec) -> Sides
     if !on {
         return none();
     }
-    sides::sides_of(hull(s))
+    bound_lists::sides_of(hull(s))
 }

@@ -4,7 +4,7 @@ ghost use Rattle.std.specs.Prelude.{◌≡◌, ◌+◌, ◌*◌, ◌≤◌};
 ghost use Rattle.order.specs.Rules.{is_kept};
 ghost use Rattle.order.specs.Window.{WindowRows, Passed, Walk, Blank};
 
-use crate::{hull, sides, window};
+use crate::{bound_lists, hull, window};
 use clash::pair;
 use job::row;
 
@@ -32,8 +32,8 @@ fn pass(
     if window::search(width, height, n, plan, i, top, blocks, hulls, b, h) {
         return true;
     }
-    sides::note(blocks, i, b);
-    sides::note(hulls, i, h);
+    bound_lists::note(blocks, i, b);
+    bound_lists::note(hulls, i, h);
     false
 }
 

@@ -3,8 +3,8 @@
 ghost use Rattle.std.specs.Prelude.{◌+◌, ◌*◌, ◌≤◌, length};
 ghost use Rattle.order.specs.Window.{WindowRows, Turned, Searched};
 
-use crate::sides;
-use crate::sides::Sides;
+use crate::bound_lists;
+use crate::bound_lists::Sides;
 use clash::pair;
 
 // Whether row j touches row i, and clashes with it. The bounds of row i are b and h.
@@ -23,8 +23,8 @@ fn turned(
     requires { WindowRows plan.now i j blocks.now hulls.now × (16 * j + 16 ≤ length plan.now) }
     ensures { Turned width height n plan.now i j blocks.now hulls.now b h result }
 {
-    let near = sides::meets_at(hulls, j, b);
-    let far = sides::meets_at(blocks, j, h);
+    let near = bound_lists::meets_at(hulls, j, b);
+    let far = bound_lists::meets_at(blocks, j, h);
     if near | far {
         return pair::rows_clash(width, height, n, plan, i, j);
     }
@@ -74,8 +74,8 @@ pub fn search(
     ensures { Searched width height n plan.now i top blocks.now hulls.now b h result }
 {
     let from = i + 1;
-    let near = sides::any_meets(hulls, from, top, b);
-    let far = sides::any_meets(blocks, from, top, h);
+    let near = bound_lists::any_meets(hulls, from, top, b);
+    let far = bound_lists::any_meets(blocks, from, top, h);
     if near | far {
         return one_by_one(width, height, n, plan, i, top, blocks, hulls, b, h);
     }
