@@ -13,7 +13,7 @@ use Rattle.plane_windows.specs.declared.patch.Patch.{Patch}
 use Rattle.plane_windows.specs.Lies.{Lies, InRows}
 use Rattle.plane_windows.specs.Widened.{Inside, Widened}
 use Rattle.colour_terms.specs.Terms.{stride}
-use Rattle.colour_sums.specs.Places.{within, counts, wide, high, few}
+use Rattle.colour_sums.specs.Places.{within, counts}
 use Rattle.colour_sums.specs.declared.window.Window.{Window}
 use Rattle.colour_sums.proofs.Counted.{counted}
 use Rattle.colour_rules.specs.Placed.{InReference}
@@ -46,14 +46,14 @@ counted-where w x y e = go (counted w x y e) (in_lines w x y e) (below_or y w.ab
 
 -- ---- rectangles of the windows
 module _ {size W : ℕ} {c : ColourWords} (l : ColourLaid size W c) where
-  pub above_in : PatchInWindow c (above_in (colour_window c))
-  above_in = let p = l.placed in (omega (arith, p.block-across, p.wide), omega (arith, p.block-down, p.high))
+  pub above-in : PatchInWindow c (above_in (colour_window c))
+  above-in = let p = l.placed in (omega (arith, p.block-across, p.wide), omega (arith, p.block-down, p.high))
 
-  pub below_in : PatchInWindow c (below_in (colour_window c))
-  below_in = let p = l.placed in (omega (arith, p.block-across, p.wide), omega (arith, p.block-down, p.high))
+  pub below-in : PatchInWindow c (below_in (colour_window c))
+  below-in = let p = l.placed in (omega (arith, p.block-across, p.wide), omega (arith, p.block-down, p.high))
 
-  pub block_in : PatchInWindow c (block_in c)
-  block_in = (l.placed.block-across, l.placed.block-down)
+  pub block-in : PatchInWindow c (block_in c)
+  block-in = (l.placed.block-across, l.placed.block-down)
 
   pub wider-in : {p r : Patch} {up left : ℕ} → Widened p up left r → PatchInWindow c p → PatchInWindow c r
   wider-in w h = (omega (arith, w.right, h.0), omega (arith, w.bottom, h.1))
