@@ -55,9 +55,9 @@ module _ (W H n : ℕ) (plan : List ℕ) (table : List ℤ) (m : ℕ) (f : Fille
     unfolding tower_writes
     writes-in = ap (take 1) (rects-are i h) ∙ rw e
 
-    pub reads_in : reads_in table i ≡ talls H (tower_reads W H n (tower_row plan i))
+    pub reads-in : reads_in table i ≡ talls H (tower_reads W H n (tower_row plan i))
     unfolding tower_writes
-    reads_in = ap (drop 1) (rects-are i h) ∙ rw e
+    reads-in = ap (drop 1) (rects-are i h) ∙ rw e
 
   -- a refused row: empty rectangles
   pub refused-in : (i : ℕ) → i < m → tower_stands W H n (tower_row plan i) ≡ false → writes_in table i ++ reads_in table i ≡ nothings
