@@ -12,7 +12,6 @@ mod Samples
 pub filter_part-requires : goal.filter_part-requires
 filter_part-requires c =
     let s = c.before.before.before.before.before in
-    let l = c.list-1.given.1 in
     (s.requires.0, s.requires.1, s.requires.2, s.requires.3, simp (length-take, length-drop) (omega arith), s.requires.6)
 
 pub returns : goal.returns

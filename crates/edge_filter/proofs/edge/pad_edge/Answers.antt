@@ -12,14 +12,9 @@ use Rattle.signed.proofs.Range.{inside-abs}
 use Rattle.edge_filter.proofs.Parts.{lend}
 use Rattle.edge_filter.proofs.Pieces.{pad-list}
 use Rattle.edge_filter.proofs.edge.pad_edge.Goals as goal
-use Rattle.edge_filter.proofs.edge.pad_edge.Lts as lts
-use Rattle.edge_filter.proofs.edge.pad_edge.Reads as reads
-use Rattle.edge_filter.proofs.edge.pad_edge.Tie as tie
+use Rattle.edge_filter.proofs.edge.pad_edge.Goals.{Start}
 
-abbrev At-Start : Type 0
-At-Start = lts.Start tie.the-claims reads.Pre reads.Post tie.handed_clauses
-
-module _ (s : At-Start) where
+module _ (s : Start) where
   abbrev last : ℤ
   last = get_or s.args.edge.now (s.args.n - 1) (pos 0)
 

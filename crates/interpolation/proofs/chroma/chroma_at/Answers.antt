@@ -10,15 +10,10 @@ use mir.Val.{to_z, of_z}
 use Rattle.signed.proofs.Bound.{back-abs}
 use Rattle.signed.proofs.Range.{inside-abs}
 use Rattle.interpolation.proofs.chroma.chroma_at.Goals as goal
-use Rattle.interpolation.proofs.chroma.chroma_at.Lts as lts
-use Rattle.interpolation.proofs.chroma.chroma_at.Reads as reads
-use Rattle.interpolation.proofs.chroma.chroma_at.Tie as tie
-
-abbrev At-Start : Type 0
-At-Start = lts.Start tie.the-claims reads.Pre reads.Post tie.handed_clauses
+use Rattle.interpolation.proofs.chroma.chroma_at.Goals.{Start}
 
 -- the entries are samples
-module _ (s : At-Start) where
+module _ (s : Start) where
   abbrev e : ℕ → ℤ
   e k = get_or s.args.list.now k (pos 0)
 

@@ -12,14 +12,9 @@ use Rattle.signed.proofs.Range.{inside-abs}
 use Rattle.edge_filter.specs.Filter.{padded, filtered}
 use Rattle.edge_filter.specs.Padded.{entry_at}
 use Rattle.edge_filter.proofs.Filtered.{filtered-sample}
-use Rattle.edge_filter.proofs.edge.filter_edge.Lts as lts
-use Rattle.edge_filter.proofs.edge.filter_edge.Reads as reads
-use Rattle.edge_filter.proofs.edge.filter_edge.Tie as tie
+use Rattle.edge_filter.proofs.edge.filter_edge.Goals.{Start}
 
-abbrev At-Start : Type 0
-At-Start = lts.Start tie.the-claims reads.Pre reads.Post
-
-module _ (s : At-Start) where
+module _ (s : Start) where
   abbrev pub e : ℕ → ℤ
   e = entry_at s.args.pad.now
 
