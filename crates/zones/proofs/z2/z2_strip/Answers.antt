@@ -23,49 +23,43 @@ use Rattle.zone_spec.specs.Either.{either}
 use Rattle.zone_spec.specs.Split.{split_of}
 use Rattle.zone_spec.proofs.Inside.{left-inside}
 use Rattle.zones.proofs.z2.z2_strip.Goals as goal
-use Rattle.zones.proofs.z2.z2_strip.Lts as lts
-use Rattle.zones.proofs.z2.z2_strip.Reads as reads
-use Rattle.zones.proofs.z2.z2_strip.Tie as tie
 
-abbrev At-After-left_columns : Type 0
-At-After-left_columns = lts.After-left_columns tie.the-claims reads.Pre reads.Post tie.handed_clauses
-
-module _ (v : At-After-left_columns) where
+module _ (w r0 : ℕ) (lum : Bool) (dx dy : ℕ) (m : ℤ) (top side : List ℤ) (some : 0 < dy) (most : dx * dy ≤ 4096) where
   abbrev M : ℤ
-  M = to_z w32 (of_z w32 v.args.m)
+  M = to_z w32 (of_z w32 m)
 
   abbrev left : ℕ → ℤ
-  left i = get_or v.args.left.now i (pos 0)
+  left i = get_or side i (pos 0)
 
   abbrev column : ℕ → ℕ → Float
-  column c j = sample (between v.args.lum M left (64 * (v.args.r0 + 4) - (c + 1) * v.args.dy + 64 * j))
+  column c j = sample (between lum M left (64 * (r0 + 4) - (c + 1) * dy + 64 * j))
 
   abbrev up : ℕ → ℕ → Float
-  up j c = sample (listed v.args.lum M v.args.top.now (64 * (c + 1) - (v.args.r0 + j + 1) * v.args.dx))
+  up j c = sample (listed lum M top (64 * (c + 1) - (r0 + j + 1) * dx))
 
   -- where the edge above does not reach
-  aside : (k : ℕ) (before after : List Float) → k ≡ split_of v.args.w ((v.args.r0 + 4) * v.args.dx)
-      → after ≡ filled (k * 4) (rows 4 column) before → (j c : ℕ) → j < 4 → c < v.args.w → 64 * (c + 1) < (v.args.r0 + j + 1) * v.args.dx
-      → get_or after (c * 4 + j) nan ≡ sample (listed v.args.lum M v.args.left.now (64 * (v.args.r0 + j + 1) - (c + 1) * v.args.dy))
+  aside : (k : ℕ) (before after : List Float) → k ≡ split_of w ((r0 + 4) * dx)
+      → after ≡ filled (k * 4) (rows 4 column) before → (j c : ℕ) → j < 4 → c < w → 64 * (c + 1) < (r0 + j + 1) * dx
+      → get_or after (c * 4 + j) nan ≡ sample (listed lum M side (64 * (r0 + j + 1) - (c + 1) * dy))
   aside k before after walked e j c p q h =
-      let row : v.args.r0 + j + 1 ≤ v.args.r0 + 4 = omega arith in
-      let c-in : c < k = omega (arith, mul-le-mul_right v.args.dx row) in
-      let inside = left-inside (v.args.r0 + j) c v.args.dx v.args.dy v.requires.w_bound.4 v.requires.w_bound.5 h in
-      let place : 64 * (v.args.r0 + 4) - (c + 1) * v.args.dy + 64 * j ≡ 64 * (v.args.r0 + j + 1) - (c + 1) * v.args.dy + 192 = omega arith in
+      let row : r0 + j + 1 ≤ r0 + 4 = omega arith in
+      let c-in : c < k = omega (arith, mul-le-mul_right dx row) in
+      let inside = left-inside (r0 + j) c dx dy some most h in
+      let place : 64 * (r0 + 4) - (c + 1) * dy + 64 * j ≡ 64 * (r0 + j + 1) - (c + 1) * dy + 192 = omega arith in
       ap (λ l. get_or l (c * 4 + j) nan) e
       ∙ rows_at 4 k column before c j nan c-in p
-      ∙ ap (λ x. sample (between v.args.lum M left x)) place
+      ∙ ap (λ x. sample (between lum M left x)) place
 
-  stands : (k : ℕ) (before after : List Float) → k ≡ split_of v.args.w ((v.args.r0 + 4) * v.args.dx)
-      → after ≡ filled (k * 4) (rows 4 column) before → (j c : ℕ) → j < 4 → c < v.args.w
-      → cond (leb ((v.args.r0 + j + 1) * v.args.dx) (64 * (c + 1))) (up j c) (get_or after (c * 4 + j) nan)
-      ≡ sample (either v.args.lum M v.args.dx v.args.dy v.args.top.now v.args.left.now (v.args.r0 + j) c)
+  stands : (k : ℕ) (before after : List Float) → k ≡ split_of w ((r0 + 4) * dx)
+      → after ≡ filled (k * 4) (rows 4 column) before → (j c : ℕ) → j < 4 → c < w
+      → cond (leb ((r0 + j + 1) * dx) (64 * (c + 1))) (up j c) (get_or after (c * 4 + j) nan)
+      ≡ sample (either lum M dx dy top side (r0 + j) c)
   unfolding either
-  stands k before after walked e j c p q = go (leb ((v.args.r0 + j + 1) * v.args.dx) (64 * (c + 1))) refl
+  stands k before after walked e j c p q = go (leb ((r0 + j + 1) * dx) (64 * (c + 1))) refl
     where
-      go : (t : Bool) → leb ((v.args.r0 + j + 1) * v.args.dx) (64 * (c + 1)) ≡ t
+      go : (t : Bool) → leb ((r0 + j + 1) * dx) (64 * (c + 1)) ≡ t
           → cond t (up j c) (get_or after (c * 4 + j) nan)
-          ≡ sample (cond t (listed v.args.lum M v.args.top.now (64 * (c + 1) - (v.args.r0 + j + 1) * v.args.dx)) (listed v.args.lum M v.args.left.now (64 * (v.args.r0 + j + 1) - (c + 1) * v.args.dy)))
+          ≡ sample (cond t (listed lum M top (64 * (c + 1) - (r0 + j + 1) * dx)) (listed lum M side (64 * (r0 + j + 1) - (c + 1) * dy)))
       go true h = refl
       go false h = aside k before after walked e j c p q (leb-false _ _ h)
 
@@ -74,5 +68,5 @@ returns c =
     let n = c.requires.w_bound.7 in
     c.split_rows.ensures
     ∙ tab-same (length c.args.out.now) _ _
-    (λ i h. rows_same c.args.w 4 _ _ (stands c.before.before.before.before.before.before.before _ _ _ c.left_columns.ensures.value c.left_columns.ensures.strip_after) i (omega (arith, n)))
+    (λ i h. rows_same c.args.w 4 _ _ (stands c.args.w c.args.r0 c.args.lum c.args.dx c.args.dy c.args.m c.args.top.now c.args.left.now c.requires.w_bound.4 c.requires.w_bound.5 _ _ _ c.left_columns.ensures.value c.left_columns.ensures.strip_after) i (omega (arith, n)))
     ∙ (λ j. tab (length c.args.out.now) (rows c.args.w (λ r h. sample (either c.args.lum (to_z-of_z c.ranges.m j) c.args.dx c.args.dy c.args.top.now c.args.left.now (c.args.r0 + r) h))))
