@@ -9,16 +9,6 @@ use Rattle.sides.proofs.Words.{word-is}
 use Rattle.block_spec.proofs.Behind.{corner-by-both, corner-by-above}
 use Rattle.sides.proofs.Sides.{corner-missing}
 use Rattle.sides.proofs.corner_at.Goals as goal
-use Rattle.sides.proofs.corner_at.Lts as lts
-use Rattle.sides.proofs.corner_at.Reads as reads
-use Rattle.sides.proofs.corner_at.Tie as tie
-
-abbrev At-After-struct_known-3-1 : Type 0
-At-After-struct_known-3-1 = lts.After-struct_known3 tie.the-claims reads.Pre reads.Post
-
--- the base is a 16-bit word
-small : (c : At-After-struct_known-3-1) → c.args.s.base < 2 ^ 16
-small c = search rules
 
 pub returns-then-s-2 : goal.returns-then-s-2
 returns-then-s-2 c =
@@ -35,7 +25,8 @@ returns-then-s c =
 pub returns : goal.returns
 returns c =
     let s = c.args.s in
+    let small : s.base < 2 ^ 16 = search rules in
     let aside = c.place-2.ensures ∙ ap (λ r. s.y * c.args.width + r) c.before-2.ensures in
     c.spot_of.ensures
-    ∙ (λ j. cond s.have_left (Sample (aside j)) (Number (word-is s.base (small c.before) j)))
+    ∙ (λ j. cond s.have_left (Sample (aside j)) (Number (word-is s.base small j)))
     ∙ sym (corner-missing c.args.width s c.if-s.false)

@@ -3,7 +3,8 @@ use native.Mathlib.Omega.{arith}
 use mathlib.Core.Path.{◌≡◌, refl, sym, ◌∙◌, ap}
 use mathlib.Core.List.{List}
 use mathlib.Core.Logic.{⊎_elim}
-use Prim.Native.Nat.{ℕ, ◌-◌, ◌≤◌, ◌<◌}
+use Prim.Native.Nat.{ℕ, ◌+◌, ◌-◌, ◌≤◌, ◌<◌, min}
+use lib.Ieee.{Float}
 use lib.IntN.{ℤ, pos}
 use lib.ListN.{length}
 use borrow.Rule.Slice.PartMut.{mid_len}
@@ -11,86 +12,78 @@ use Rattle.lists.specs.Fill.{filled}
 use Rattle.lists.proofs.Fill.{length-filled, filled_none}
 use Rattle.samples.specs.Sample.{reading, Readable}
 use Rattle.edge_line.specs.Along.{along}
-use Rattle.edge_line.specs.Run.{run_at}
+use Rattle.edge_line.specs.Run.{run_at, Line}
 use Rattle.edge_line.proofs.Split.{below_or}
 use Rattle.edge_line.proofs.Along.{along-here, along-far}
 use Rattle.edge_line.proofs.Runs.{run-near, run-from, near-held, far-held}
 use Rattle.edge_line.proofs.Halves.{near-half, far-half}
 use Rattle.edge_line.proofs.edge.read_line.Goals as goal
 use Rattle.edge_line.proofs.edge.read_line.Goals.{then-first-bs, else-first-bs}
-use Rattle.edge_line.proofs.edge.read_line.Lts as lts
-use Rattle.edge_line.proofs.edge.read_line.Reads as reads
-use Rattle.edge_line.proofs.edge.read_line.Tie as tie
 
-abbrev At-Start : Type 0
-At-Start = lts.After-shared_slice_known tie.the-claims reads.Pre reads.Post tie.handed_clauses
-
-abbrev At-Joined-first-bs : Type 0
-At-Joined-first-bs = lts.Joined1 tie.the-claims reads.Pre reads.Post tie.handed_clauses
-
-module _ (t : At-Start) where
-  abbrev xs : List ℤ
-  xs = t.args.edge.now
-
-  abbrev far : ℕ → ℕ
-  far c = along t.args.bs t.args.first (t.args.end - t.args.bs) c
-
+module _ {size start stride bs a top : ℕ} (l : Line size start stride bs a top) (plane : List Float) (xs : List ℤ) where
   abbrev entry : ℕ → ℤ
-  entry c = pos (reading (run_at t.args.plane.now t.args.start t.args.stride (far c)))
+  entry c = pos (reading (run_at plane start stride (along bs a top c)))
 
--- before the last run: the entries below `from` are written, and from there on each entry's sample is its own
-record Half (j : At-Joined-first-bs) : Type 0 where
-  short : j.if-first-bs.from ≤ j.args.bs
-  written : j.if-first-bs.edge ≡ filled j.if-first-bs.from (entry j.before) (xs j.before)
-  own : (i : ℕ) → j.if-first-bs.from ≤ i → i < j.args.end → far j.before i ≡ i
+  module _ (end from : ℕ) (edge : List ℤ) where
+    -- before the last run: the entries below `from` are written, and from there on each entry's sample is its own
+    record Half : Type 0 where
+      short : from ≤ bs
+      written : edge ≡ filled from entry xs
+      own : (i : ℕ) → from ≤ i → i < end → along bs a top i ≡ i
 
-half : (j : At-Joined-first-bs) → Half j
-half j =
-    let t = j.before in
-    let l = t.requires.line.0 in
-    elim j.if-first-bs.branch [
-      | then-first-bs w ↦ record {
-        short = omega (arith, w.from-is);
-        written = w.edge-is ∙ w.read_and_repeat.ensures ∙ near-half l t.args.plane.now (λ v. pos (reading v)) _ (xs t) refl ∙ ap (λ n. filled n (entry t) (xs t)) (sym w.from-is);
-        own = λ i h k. along-far _ _ _ i (omega (arith, w.from-is)) (omega (arith, l.counts));
+    longs : Half → bs ≤ length xs → length edge ≡ length xs
+    longs h k = ap (λ (zs : List ℤ). length zs) h.written ∙ length-filled from entry xs (omega (arith, h.short))
+
+    module _ (ends : end ≤ bs + top) where
+      after-near : {near : List ℤ} → edge ≡ near → from ≡ bs → near ≡ filled bs (λ i. pos (reading (run_at plane start stride (min i (a - 1))))) xs → Half
+      after-near e n told = record {
+        short = omega (arith, n);
+        written = e ∙ told ∙ near-half l plane (λ v. pos (reading v)) _ xs refl ∙ ap (λ n. filled n entry xs) (sym n);
+        own = λ i h k. along-far _ _ _ i (omega (arith, n)) (omega (arith, l.counts));
       }
-      | else-first-bs w ↦ record {
-        short = omega (arith, w.from-is);
-        written = w.edge-is ∙ sym (filled_none (entry t) (xs t)) ∙ ap (λ n. filled n (entry t) (xs t)) (sym w.from-is);
+
+      after-none : edge ≡ xs → from ≡ 0 → bs ≤ a → Half
+      after-none e n m = record {
+        short = omega (arith, n);
+        written = e ∙ sym (filled_none entry xs) ∙ ap (λ n. filled n entry xs) (sym n);
         own = λ i h k.
             ⊎_elim
-            (λ b. along-here _ _ _ i (omega (arith, w.if-first-bs.false, l.counts)))
+            (λ b. along-here _ _ _ i (omega (arith, m, l.counts)))
             (λ b. along-far _ _ _ i b (omega (arith, l.counts)))
-            (below_or i t.args.bs);
+            (below_or i bs);
       }
-    ]
-
-long : (j : At-Joined-first-bs) → length j.if-first-bs.edge ≡ length (xs j.before)
-long j =
-    let t = j.before in
-    let h = half j in
-    ap (λ (zs : List ℤ). length zs) h.written ∙ length-filled j.if-first-bs.from (entry t) (xs t) (omega (arith, h.short, t.requires.line.0.block))
 
 pub read_and_repeat-requires : goal.read_and_repeat-requires
 read_and_repeat-requires c =
-    let t = c.before.before.before in
-    let l = t.requires.line.0 in record { run = (run-near l _ (omega (arith, l.counts)), l.counts.0, omega (arith, l.counts), omega (arith, l.block)); by_index = near-held l t.args.plane.now Readable t.requires.by_index _ (omega arith) }
+    let l = c.requires.line.0 in
+    record {
+      run = (run-near l _ (omega (arith, l.counts)), l.counts.0, omega (arith, l.counts), omega (arith, l.block));
+      by_index = near-held l c.args.plane.now Readable c.requires.by_index _ (omega arith);
+    }
 
 pub read_run-requires : goal.read_run-requires
 read_run-requires c =
-    let j = c.before.before.before in
-    let t = j.before in
-    let l = t.requires.line.0 in
-    let h = half j in
-    let part = mid_len j.if-first-bs.from t.args.end j.if-first-bs.edge (omega (arith, long j, l.counts, l.block)) in
-    rw part record { run = run-from l _ _ (omega (arith, h.short)); by_index = far-held l t.args.plane.now Readable t.requires.by_index _ j.if-first-bs.from (omega (arith, h.short)) (λ i f k. h.own i f (omega (arith, l.counts))) }
+    let l = c.requires.line.0 in
+    let j = c.if-first-bs in
+    let h : Half c.requires.line.0 c.args.plane.now c.args.edge.now c.args.end j.from j.edge = elim j.branch [
+      | then-first-bs w ↦ after-near c.requires.line.0 c.args.plane.now c.args.edge.now c.args.end _ _ (omega arith) w.edge-is w.from-is w.read_and_repeat.ensures
+      | else-first-bs w ↦ after-none c.requires.line.0 c.args.plane.now c.args.edge.now c.args.end _ _ (omega arith) w.edge-is w.from-is w.if-first-bs.false
+    ] in
+    let long = longs c.requires.line.0 c.args.plane.now c.args.edge.now c.args.end j.from j.edge h (omega (arith, l.block)) in
+    let part = mid_len j.from c.args.end j.edge (omega (arith, long, l.counts, l.block)) in
+    rw part record {
+      run = run-from l _ _ (omega (arith, h.short));
+      by_index = far-held l c.args.plane.now Readable c.requires.by_index _ j.from (omega (arith, h.short)) (λ i f k. h.own i f (omega (arith, l.counts)));
+    }
 
 pub returns : goal.returns
 returns c =
-    let r = c.before in
-    let j = r.before.before.before.before in
-    let t = j.before in
-    let l = t.requires.line.0 in
-    let h = half j in
-    far-half l t.args.plane.now (λ v. pos (reading v)) j.if-first-bs.from t.args.end (xs t) j.if-first-bs.edge _ (omega (arith, h.short)) (omega (arith, long j, l.counts, l.block))
-    h.written r.read_run.ensures h.own
+    let l = c.requires.line.0 in
+    let j = c.if-first-bs in
+    let h : Half c.requires.line.0 c.args.plane.now c.args.edge.now c.args.end j.from j.edge = elim j.branch [
+      | then-first-bs w ↦ after-near c.requires.line.0 c.args.plane.now c.args.edge.now c.args.end _ _ (omega arith) w.edge-is w.from-is w.read_and_repeat.ensures
+      | else-first-bs w ↦ after-none c.requires.line.0 c.args.plane.now c.args.edge.now c.args.end _ _ (omega arith) w.edge-is w.from-is w.if-first-bs.false
+    ] in
+    let long = longs c.requires.line.0 c.args.plane.now c.args.edge.now c.args.end j.from j.edge h (omega (arith, l.block)) in
+    far-half l c.args.plane.now (λ v. pos (reading v)) j.from c.args.end c.args.edge.now j.edge _ (omega (arith, h.short)) (omega (arith, long, l.counts, l.block))
+    h.written c.read_run.ensures h.own
