@@ -67,18 +67,23 @@ fn show_named(rt: &impl Files, name: &[u8]) {
 }
 
 // The one file that is named, or those that ship.
-fn show_all<R: Files + Env>(rt: &R, name: &mut [u8], more: &mut [u8]) {
+fn show_first<R: Files + Env>(rt: &R, name: &mut [u8]) {
     match rt.arg(1, name) {
-        Ok(n) => match rt.arg(2, more) {
-            Err(FillError::NotPresent) => show_named(rt, &name[..n]),
-            _ => fault::tell_usage(),
-        },
+        Ok(n) => show_named(rt, &name[..n]),
         Err(FillError::TooLong) => unopened::tell_long(),
         Err(FillError::NotPresent) => {
             show_file(rt, "finish.pgm");
             print::say(b"\n");
             show_file(rt, "helmets.pgm");
         }
+    }
+}
+
+// The same, where there is at most one argument.
+fn show_all<R: Files + Env>(rt: &R, name: &mut [u8], more: &mut [u8]) {
+    match rt.arg(2, more) {
+        Err(FillError::NotPresent) => show_first(rt, name),
+        _ => fault::tell_usage(),
     }
 }
 
