@@ -10,22 +10,18 @@ use Rattle.smooth_lines.proofs.Running.{run, run-most, run-next, run_is, here-mo
 use Rattle.smooth_lines.proofs.across.weighted_line.Goals as goal
 
 -- the numerator before the first column
-module _ (c : goal.After-slice_known-1) where
-  first : c.args.l * c.args.m + c.args.m / 2 ≡ run c.args.l c.args.e c.args.m 0
-  unfolding run
-  first = rw (sub-zero) (omega arith)
-
-  first-most : run c.args.l c.args.e c.args.m 0 ≤ 600000
-  first-most = run-most c.requires.step.0 c.requires.step.1 0 (omega arith)
+first : (l e m : ℕ) → l * m + m / 2 ≡ run l e m 0
+unfolding run
+first l e m = rw (sub-zero) (omega arith)
 
 pub overflow_mul-number : goal.overflow_mul-number
-overflow_mul-number c = omega (arith, first c, first-most c)
+overflow_mul-number c = omega (arith, first c.args.l c.args.e c.args.m, run-most c.requires.step.0 c.requires.step.1 0 (omega arith))
 
 pub overflow_add-number : goal.overflow_add-number
-overflow_add-number c = omega (arith, first c, first-most c)
+overflow_add-number c = omega (arith, first c.args.l c.args.e c.args.m, run-most c.requires.step.0 c.requires.step.1 0 (omega arith))
 
 pub loop-c-init : goal.loop-c-init
-loop-c-init c = (omega arith, refl, sym (filled_none _ _), first c)
+loop-c-init c = (omega arith, refl, sym (filled_none _ _), first c.args.l c.args.e c.args.m)
 
 -- one turn
 next : (l e m c n : ℕ) → c < m → n ≡ run l e m c → n + e ≡ run l e m (c + 1) + l

@@ -1,5 +1,5 @@
 -- `fill` meets its contract: the rows below i are filled. Assumes nothing.
-use mathlib.Core.Path.{◌≡◌, refl, ◌∙◌}
+use mathlib.Core.Path.{◌≡◌, refl}
 use native.Mathlib.Omega.{arith}
 use Rattle.tower_order.proofs.Filled.{filled_none, filled_more}
 use Rattle.tower_order.proofs.fill.fill.Goals as goal
@@ -20,7 +20,7 @@ loop-i-smaller c = omega arith
 
 pub loop-i-preserved : goal.loop-i-preserved
 loop-i-preserved c =
-    (omega arith, c.table-1.given ∙ c.loop-i.invariant.1, filled_more _ _ _ _ _ _ _ c.loop-i.invariant.2 c.fill_row.ensures)
+    (omega arith, omega arith, filled_more _ _ _ _ _ _ _ c.loop-i.invariant.2 c.fill_row.ensures)
 
 pub shape_of-table : goal.shape_of-table
 shape_of-table c = c.loop-i.invariant.1

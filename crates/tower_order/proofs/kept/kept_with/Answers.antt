@@ -20,7 +20,7 @@ kept-requires c =
     record {
       few = p.0.few;
       once = p.0.once;
-      long = omega (arith, c.table-1.given, p.0.few);
+      long = omega (arith, p.0.few);
       plain = c.fill.ensures.plain;
     }
 

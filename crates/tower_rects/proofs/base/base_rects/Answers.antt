@@ -3,7 +3,6 @@ use mathlib.Core.Path.{◌≡◌, ◌∙◌, ap}
 use mathlib.Core.Bool.{Bool}
 use mathlib.Core.List.{[], ◌∷◌}
 use Prim.Native.Nat.{ℕ, ◌+◌, ◌-◌}
-use native.Mathlib.Omega.{arith}
 use Rattle.reorder.specs.Rect.{Rect}
 use Rattle.touches.specs.Rects.{rect_if}
 use Rattle.tower_rects.proofs.base.base_rects.Goals as goal
@@ -14,9 +13,6 @@ wide-as R there x y w w' e q = e ∙ ap (λ n. rect_if there x y n 1) q
 
 high-as : (R : Rect) (there : Bool) (x y h h' : ℕ) → R ≡ rect_if there x y 1 h → h ≡ h' → R ≡ rect_if there x y 1 h'
 high-as R there x y h h' e q = e ∙ ap (λ n. rect_if there x y 1 n) q
-
-pub overflow_cast-s-3 : goal.overflow_cast-s-3
-overflow_cast-s-3 c = omega (arith, c.struct_known-6-1.given)
 
 pub run_left-requires-2 : goal.run_left-requires-2
 run_left-requires-2 c =
