@@ -1,0 +1,6 @@
+-- `tower_run` meets its contract: the call's promise, with its answer's number. Assumes nothing.
+use Rattle.refusals.proofs.Promise.{numbered}
+use Rattle.tower.proofs.jobs.tower_run.Goals as goal
+
+pub returns : goal.returns
+returns c = numbered c.run.ensures c.number.ensures
