@@ -2,7 +2,6 @@
 use Prim.Native.Nat.{◌-◌}
 use lib.ListN.{length}
 use mathlib.Core.Path.{◌≡◌}
-use borrow.Author.Rules.{rules}
 use Rattle.tower_planner.proofs.put_plane.Given as goal
 
 abbrev pub invariant-loop-block : goal.invariant-loop-block
