@@ -3,42 +3,35 @@
 use mathlib.Core.Path.{◌≡◌, refl}
 use mathlib.Core.Bool.{true, false}
 use Prim.Native.Nat.{ℕ}
-use native.Mathlib.Omega.{arith}
 use Rattle.numbers.specs.Size.{side_of, sizes, size_of, is_size}
 use Rattle.numbers.specs.declared.size.Size.{Size}
 use Rattle.numbers.specs.declared.size.Size.TheVariants.{B4, B8, B16, B32, B64}
-use Rattle.numbers.specs.declared.size.FoundSize.TheVariants as found-size
 use Rattle.numbers.specs.Depth.{bits_of, depths, depth_of, is_depth}
 use Rattle.numbers.specs.declared.depth.Depth.{Depth}
 use Rattle.numbers.specs.declared.depth.Depth.TheVariants.{Eight, Ten, Twelve}
-use Rattle.numbers.specs.declared.depth.FoundDepth.TheVariants as found-depth
-use Rattle.numbers.proofs.Look.{look-back, look-yes, look-no, Every, among-all}
+use Rattle.std.specs.Prelude.{Ok, Err}
+use Rattle.numbers.specs.declared.answer.Refusal.TheVariants.{BadSize, BadDepth}
+use Rattle.numbers.proofs.Look.{look-back, look-yes, look-no, ok-same, err-ok, Every, among-all}
 
 -- ---- Size
-same_size : (a b : Size) → found-size.Is a ≡ found-size.Is b → a ≡ b
-same_size a b h = cc
-
-no_size : (e : Size) → found-size.NoSize ≡ found-size.Is e → ⊥
-no_size e h = let z : ◌≡◌ {A = ℕ} 0 1 = cc in omega arith
-
-pub size-there : (e : Size) → size_of (side_of e) ≡ found-size.Is e
+pub size-there : (e : Size) → size_of (side_of e) ≡ Ok e
 size-there B4 = refl
 size-there B8 = refl
 size-there B16 = refl
 size-there B32 = refl
 size-there B64 = refl
 
-pub size_back : (n : ℕ) (e : Size) → size_of n ≡ found-size.Is e → side_of e ≡ n
-size_back n e h = look-back side_of found-size.Is found-size.NoSize same_size no_size sizes n e h
+pub size_back : (n : ℕ) (e : Size) → size_of n ≡ Ok e → side_of e ≡ n
+size_back n e h = look-back side_of Ok (Err BadSize) ok-same (err-ok BadSize) sizes n e h
 
 -- the test, and what the code finds
-pub size-yes : (n : ℕ) (e : Size) → size_of n ≡ found-size.Is e → is_size n ≡ true
+pub size-yes : (n : ℕ) (e : Size) → size_of n ≡ Ok e → is_size n ≡ true
 unfolding is_size
-size-yes n e h = look-yes side_of found-size.Is found-size.NoSize same_size no_size sizes n e h
+size-yes n e h = look-yes side_of Ok (Err BadSize) ok-same (err-ok BadSize) sizes n e h
 
-pub size-no : (n : ℕ) → size_of n ≡ found-size.NoSize → is_size n ≡ false
+pub size-no : (n : ℕ) → size_of n ≡ Err BadSize → is_size n ≡ false
 unfolding is_size
-size-no n h = look-no side_of found-size.Is found-size.NoSize same_size no_size sizes n h
+size-no n h = look-no side_of Ok (Err BadSize) ok-same (err-ok BadSize) sizes n h
 
 -- a fact of each size is computed there, and used with B open
 pub size-all : (P : ℕ → Type 0) (n : ℕ) → Every (λ e. P (side_of e)) sizes → is_size n ≡ true → P n
@@ -46,28 +39,22 @@ unfolding is_size
 size-all P n all h = among-all side_of P sizes n all h
 
 -- ---- Depth
-same-depth : (a b : Depth) → found-depth.Is a ≡ found-depth.Is b → a ≡ b
-same-depth a b h = cc
-
-no-depth : (e : Depth) → found-depth.NoDepth ≡ found-depth.Is e → ⊥
-no-depth e h = let z : ◌≡◌ {A = ℕ} 0 1 = cc in omega arith
-
-pub depth-there : (e : Depth) → depth_of (bits_of e) ≡ found-depth.Is e
+pub depth-there : (e : Depth) → depth_of (bits_of e) ≡ Ok e
 depth-there Eight = refl
 depth-there Ten = refl
 depth-there Twelve = refl
 
-pub depth-back : (n : ℕ) (e : Depth) → depth_of n ≡ found-depth.Is e → bits_of e ≡ n
-depth-back n e h = look-back bits_of found-depth.Is found-depth.NoDepth same-depth no-depth depths n e h
+pub depth-back : (n : ℕ) (e : Depth) → depth_of n ≡ Ok e → bits_of e ≡ n
+depth-back n e h = look-back bits_of Ok (Err BadDepth) ok-same (err-ok BadDepth) depths n e h
 
 -- the test, and what the code finds
-pub depth-yes : (n : ℕ) (e : Depth) → depth_of n ≡ found-depth.Is e → is_depth n ≡ true
+pub depth-yes : (n : ℕ) (e : Depth) → depth_of n ≡ Ok e → is_depth n ≡ true
 unfolding is_depth
-depth-yes n e h = look-yes bits_of found-depth.Is found-depth.NoDepth same-depth no-depth depths n e h
+depth-yes n e h = look-yes bits_of Ok (Err BadDepth) ok-same (err-ok BadDepth) depths n e h
 
-pub depth-no : (n : ℕ) → depth_of n ≡ found-depth.NoDepth → is_depth n ≡ false
+pub depth-no : (n : ℕ) → depth_of n ≡ Err BadDepth → is_depth n ≡ false
 unfolding is_depth
-depth-no n h = look-no bits_of found-depth.Is found-depth.NoDepth same-depth no-depth depths n h
+depth-no n h = look-no bits_of Ok (Err BadDepth) ok-same (err-ok BadDepth) depths n h
 
 -- a fact of each depth is computed there, and used with D open
 pub depth-all : (P : ℕ → Type 0) (n : ℕ) → Every (λ e. P (bits_of e)) depths → is_depth n ≡ true → P n

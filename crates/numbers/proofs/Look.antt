@@ -7,7 +7,8 @@ use Prim.Native.Nat.{ℕ}
 use native.Mathlib.Omega.{arith}
 use lib.Dec.{eqb}
 use borrow.Author.Tests.{eqb-true}
-use Rattle.numbers.specs.Look.{only, nothing, look, among}
+use Rattle.std.specs.Prelude.{Result, Ok, Err}
+use Rattle.numbers.specs.Look.{look, among}
 
 -- cases of E as the answer F holds them: two answers that hold a case are equal only where the cases are, and `none` holds none
 module _ {E F : Type 0} (number : E → ℕ) (is : E → F) (none : F) (same : (a b : E) → is a ≡ is b → a ≡ b) (other : (e : E) → none ≡ is e → ⊥) where
@@ -51,13 +52,10 @@ among-all number P (e ∷ es) n all h = go (eqb n (number e)) (eqb-true n (numbe
     go true y later k = subst P (sym (y refl)) all.0
     go false y later k = later k
 
--- a case that may be there
-module _ {E : Type 0} where
-  pub only_same : (a b : E) → only a ≡ only b → a ≡ b
-  only_same a b h = cc
+-- a case that is found, or a refusal
+module _ {E R : Type 0} where
+  pub ok-same : (a b : E) → ◌≡◌ {A = Result E R} (Ok a) (Ok b) → a ≡ b
+  ok-same a b h = grind arith
 
-  only_none : (e : E) → nothing ≡ only e → ⊥
-  only_none e h = let z : ◌≡◌ {A = ℕ} 0 1 = cc in omega arith
-
-  pub find-back : (number : E → ℕ) (es : List E) (n : ℕ) (e : E) → look number only nothing es n ≡ only e → number e ≡ n
-  find-back number es n e h = look-back number only nothing only_same only_none es n e h
+  pub err-ok : (r : R) (e : E) → ◌≡◌ {A = Result E R} (Err r) (Ok e) → ⊥
+  err-ok r e h = grind arith

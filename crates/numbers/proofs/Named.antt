@@ -1,56 +1,86 @@
 -- The number of an answer and the answer of a number agree, both ways; done is the one that is 0. Assumes nothing.
-use mathlib.Core.Path.{◌≡◌, refl, sym, subst}
-use mathlib.Core.Bool.{true}
+use mathlib.Core.Path.{◌≡◌, refl, ap}
+use mathlib.Core.Bool.{true, false}
 use Prim.Native.Nat.{ℕ}
 use borrow.Author.Tests.{eqb-true, eq-eqb}
-use Rattle.numbers.specs.Look.{only}
-use Rattle.numbers.specs.Answer.{answer_number, answers, answer_of, is_done}
-use Rattle.numbers.specs.declared.answer.Answer.{Answer}
-use Rattle.numbers.specs.declared.answer.Answer.TheVariants.{Done, BadSize, BadDepth, BadMode, OutsidePlane, NoNeighbour, BadBase, NoDifferences, BadSample, ShortList, BadColourDirection, BadReference, BadLines, BadColourSample, SumTooLarge, BadPlane, BadPlan, NotEachOnce, PairTurned, NotBlocks, BadCheck, OutOfTurn, BadUsed, NotZero, NoRoom}
-use Rattle.numbers.proofs.Look.{only_same, find-back}
+use Rattle.std.specs.Prelude.{Ok, Err, Some, None}
+use Rattle.std.proofs.lemmas.Option.{same_Some, none-some}
+use Rattle.numbers.specs.Answer.{Answer, done, refusal_number, answer_number, answers, answer_of, is_done}
+use Rattle.numbers.specs.declared.answer.Refusal.{Refusal}
+use Rattle.numbers.specs.declared.answer.Refusal.TheVariants.{BadSize, BadDepth, BadMode, OutsidePlane, NoNeighbour, BadBase, NoDifferences, BadSample, ShortList, BadColourDirection, BadReference, BadLines, BadColourSample, SumTooLarge, BadPlane, BadPlan, NotEachOnce, PairTurned, NotBlocks, BadCheck, OutOfTurn, BadUsed, NotZero, NoRoom}
+use Rattle.numbers.proofs.Look.{look-back}
 
-pub answer-there : (e : Answer) → answer_of (answer_number e) ≡ only e
-answer-there Done = refl
-answer-there BadSize = refl
-answer-there BadDepth = refl
-answer-there BadMode = refl
-answer-there OutsidePlane = refl
-answer-there NoNeighbour = refl
-answer-there BadBase = refl
-answer-there NoDifferences = refl
-answer-there BadSample = refl
-answer-there ShortList = refl
-answer-there BadColourDirection = refl
-answer-there BadReference = refl
-answer-there BadLines = refl
-answer-there BadColourSample = refl
-answer-there SumTooLarge = refl
-answer-there BadPlane = refl
-answer-there BadPlan = refl
-answer-there NotEachOnce = refl
-answer-there PairTurned = refl
-answer-there NotBlocks = refl
-answer-there BadCheck = refl
-answer-there OutOfTurn = refl
-answer-there BadUsed = refl
-answer-there NotZero = refl
-answer-there NoRoom = refl
+refusal-there : (r : Refusal) → answer_of (refusal_number r) ≡ Some (Err r)
+refusal-there BadSize = refl
+refusal-there BadDepth = refl
+refusal-there BadMode = refl
+refusal-there OutsidePlane = refl
+refusal-there NoNeighbour = refl
+refusal-there BadBase = refl
+refusal-there NoDifferences = refl
+refusal-there BadSample = refl
+refusal-there ShortList = refl
+refusal-there BadColourDirection = refl
+refusal-there BadReference = refl
+refusal-there BadLines = refl
+refusal-there BadColourSample = refl
+refusal-there SumTooLarge = refl
+refusal-there BadPlane = refl
+refusal-there BadPlan = refl
+refusal-there NotEachOnce = refl
+refusal-there PairTurned = refl
+refusal-there NotBlocks = refl
+refusal-there BadCheck = refl
+refusal-there OutOfTurn = refl
+refusal-there BadUsed = refl
+refusal-there NotZero = refl
+refusal-there NoRoom = refl
 
-pub answer_back : (n : ℕ) (e : Answer) → answer_of n ≡ only e → answer_number e ≡ n
-answer_back n e h = find-back answer_number answers n e h
+pub answer-there : (e : Answer) → answer_of (answer_number e) ≡ Some e
+answer-there (Ok _) = refl
+answer-there (Err r) = refusal-there r
+
+pub answer_back : (n : ℕ) (e : Answer) → answer_of n ≡ Some e → answer_number e ≡ n
+answer_back n e h = look-back answer_number Some None same_Some none-some answers n e h
+
+-- a refusal is never done
+pub refusal-not-done : (r : Refusal) → is_done (Err r) ≡ false
+unfolding is_done
+refusal-not-done BadSize = refl
+refusal-not-done BadDepth = refl
+refusal-not-done BadMode = refl
+refusal-not-done OutsidePlane = refl
+refusal-not-done NoNeighbour = refl
+refusal-not-done BadBase = refl
+refusal-not-done NoDifferences = refl
+refusal-not-done BadSample = refl
+refusal-not-done ShortList = refl
+refusal-not-done BadColourDirection = refl
+refusal-not-done BadReference = refl
+refusal-not-done BadLines = refl
+refusal-not-done BadColourSample = refl
+refusal-not-done SumTooLarge = refl
+refusal-not-done BadPlane = refl
+refusal-not-done BadPlan = refl
+refusal-not-done NotEachOnce = refl
+refusal-not-done PairTurned = refl
+refusal-not-done NotBlocks = refl
+refusal-not-done BadCheck = refl
+refusal-not-done OutOfTurn = refl
+refusal-not-done BadUsed = refl
+refusal-not-done NotZero = refl
+refusal-not-done NoRoom = refl
 
 -- done is the one answer that has its number
-pub done-is : (a : Answer) → is_done a ≡ true → a ≡ Done
-unfolding is_done
-done-is a h =
-    let z : answer_of (answer_number Done) ≡ only a = subst (λ n. answer_of n ≡ only a) (eqb-true (answer_number a) (answer_number Done) h) (answer-there a) in
-    sym (only_same Done a z)
+pub done-is : (a : Answer) → is_done a ≡ true → a ≡ done
+done-is (Ok _) h = refl
+done-is (Err r) h = let n = refusal-not-done r in cc
 
 -- the answer by its number, both ways
-pub done-number : (a : Answer) → is_done a ≡ true → answer_number a ≡ answer_number Done
+pub done-number : (a : Answer) → is_done a ≡ true → answer_number a ≡ answer_number done
 unfolding is_done
-done-number a h = eqb-true (answer_number a) (answer_number Done) h
+done-number a h = eqb-true (answer_number a) (answer_number done) h
 
-pub number-done : (a : Answer) → answer_number a ≡ answer_number Done → is_done a ≡ true
+pub number-done : (a : Answer) → answer_number a ≡ answer_number done → is_done a ≡ true
 unfolding is_done
-number-done a h = eq-eqb (answer_number a) (answer_number Done) h
+number-done a h = eq-eqb (answer_number a) (answer_number done) h

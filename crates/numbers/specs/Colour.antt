@@ -1,10 +1,10 @@
 -- Colour directions 0, 1 and 2 (document 01, Colour parameters; refusal 10): the centre, the one above it, the one left of it.
-use Rattle.std.specs.Prelude.{Bool, List, [], ◌∷◌, ℕ}
+use Rattle.std.specs.Prelude.{Result, Ok, Err, Bool, List, [], ◌∷◌, ℕ}
 use Rattle.numbers.specs.Look.{look, among}
 use Rattle.numbers.specs.declared.colour.ColourDirection.{ColourDirection}
 use Rattle.numbers.specs.declared.colour.ColourDirection.TheVariants.{Centre, Above, Left}
-use Rattle.numbers.specs.declared.colour.FoundColour.{FoundColour}
-use Rattle.numbers.specs.declared.colour.FoundColour.TheVariants.{Is, NoColour}
+use Rattle.numbers.specs.declared.answer.Refusal.{Refusal}
+use Rattle.numbers.specs.declared.answer.Refusal.TheVariants.{BadColourDirection}
 
 -- case to number
 abbrev pub colour_number : ColourDirection → ℕ
@@ -16,13 +16,13 @@ abbrev pub colours : List ColourDirection
 colours = Centre ∷ Above ∷ Left ∷ []
 
 -- number to case
-abbrev pub colour_of : ℕ → FoundColour
-colour_of n = look colour_number Is NoColour colours n
+abbrev pub colour_of : ℕ → Result ColourDirection Refusal
+colour_of n = look colour_number Ok (Err BadColourDirection) colours n
 
 -- the case of n; of a number that names none, which 10 refuses, the centre
-abbrev pub or_centre : FoundColour → ColourDirection
-or_centre (Is d) = d
-or_centre NoColour = Centre
+abbrev pub or_centre : Result ColourDirection Refusal → ColourDirection
+or_centre (Ok d) = d
+or_centre (Err _) = Centre
 
 abbrev pub the_colour : ℕ → ColourDirection
 the_colour n = or_centre (colour_of n)

@@ -1,11 +1,6 @@
 -- Names and their numbers: a number is given for each case, and the case for each number is looked up in the list of the cases.
 use Rattle.std.specs.Prelude.{Bool, false, cond, ◌||◌, List, [], ◌∷◌, ℕ, eqb}
 
--- one case, or none
-pub data Maybe (E : Type 0) : Type 0 where
-  only : E → Maybe E
-  nothing : Maybe E
-
 -- the case whose number is n, as `is` holds it, or `none`
 abbrev pub look : {E F : Type 0} → (E → ℕ) → (E → F) → F → List E → ℕ → F
 look number is none [] n = none

@@ -1,10 +1,10 @@
 -- "Block size B is 4, 8, 16, 32 or 64."
-use Rattle.std.specs.Prelude.{Bool, List, [], ◌∷◌, ℕ}
+use Rattle.std.specs.Prelude.{Result, Ok, Err, Bool, List, [], ◌∷◌, ℕ}
 use Rattle.numbers.specs.Look.{look, among}
 use Rattle.numbers.specs.declared.size.Size.{Size}
 use Rattle.numbers.specs.declared.size.Size.TheVariants.{B4, B8, B16, B32, B64}
-use Rattle.numbers.specs.declared.size.FoundSize.{FoundSize}
-use Rattle.numbers.specs.declared.size.FoundSize.TheVariants.{Is, NoSize}
+use Rattle.numbers.specs.declared.answer.Refusal.{Refusal}
+use Rattle.numbers.specs.declared.answer.Refusal.TheVariants.{BadSize}
 
 -- case to number
 abbrev pub side_of : Size → ℕ
@@ -18,8 +18,8 @@ abbrev pub sizes : List Size
 sizes = B4 ∷ B8 ∷ B16 ∷ B32 ∷ B64 ∷ []
 
 -- number to case
-abbrev pub size_of : ℕ → FoundSize
-size_of b = look side_of Is NoSize sizes b
+abbrev pub size_of : ℕ → Result Size Refusal
+size_of b = look side_of Ok (Err BadSize) sizes b
 
 -- B is one of the five
 unfoldable pub is_size : ℕ → Bool

@@ -1,11 +1,11 @@
 // What a call answers: done, or a refusal (document 01, Refusal numbers, in order of checking; 40 to 45:
 // document 02, request (iv)).
 ghost use Rattle.std.specs.Prelude.{◌≡◌};
-ghost use Rattle.numbers.specs.Answer.{answer_number, is_done};
+ghost use Rattle.numbers.specs.Answer.{refusal_number, answer_number};
 
-#[derive(Clone, Copy)]
-pub enum Answer {
-    Done,
+// Why a call is refused.
+#[derive(Clone, Copy, Debug, PartialEq, Eq)]
+pub enum Refusal {
     BadSize,
     BadDepth,
     BadMode,
@@ -32,44 +32,49 @@ pub enum Answer {
     NoRoom,
 }
 
-impl Answer {
-    // The answer's number.
+// What a call answers: done, or why it is refused.
+pub type Answer = Result<(), Refusal>;
+
+impl Refusal {
+    // The refusal's number.
     pub fn number(self) -> u32
-        ensures { result ≡ answer_number self }
+        ensures { result ≡ refusal_number self }
     {
         match self {
-            Answer::Done => 0,
-            Answer::BadSize => 1,
-            Answer::BadDepth => 2,
-            Answer::BadMode => 3,
-            Answer::OutsidePlane => 4,
-            Answer::NoNeighbour => 5,
-            Answer::BadBase => 6,
-            Answer::NoDifferences => 7,
-            Answer::BadSample => 8,
-            Answer::ShortList => 9,
-            Answer::BadColourDirection => 10,
-            Answer::BadReference => 11,
-            Answer::BadLines => 12,
-            Answer::BadColourSample => 13,
-            Answer::SumTooLarge => 14,
-            Answer::BadPlane => 20,
-            Answer::BadPlan => 21,
-            Answer::NotEachOnce => 22,
-            Answer::PairTurned => 23,
-            Answer::NotBlocks => 40,
-            Answer::BadCheck => 41,
-            Answer::OutOfTurn => 42,
-            Answer::BadUsed => 43,
-            Answer::NotZero => 44,
-            Answer::NoRoom => 45,
+            Refusal::BadSize => 1,
+            Refusal::BadDepth => 2,
+            Refusal::BadMode => 3,
+            Refusal::OutsidePlane => 4,
+            Refusal::NoNeighbour => 5,
+            Refusal::BadBase => 6,
+            Refusal::NoDifferences => 7,
+            Refusal::BadSample => 8,
+            Refusal::ShortList => 9,
+            Refusal::BadColourDirection => 10,
+            Refusal::BadReference => 11,
+            Refusal::BadLines => 12,
+            Refusal::BadColourSample => 13,
+            Refusal::SumTooLarge => 14,
+            Refusal::BadPlane => 20,
+            Refusal::BadPlan => 21,
+            Refusal::NotEachOnce => 22,
+            Refusal::PairTurned => 23,
+            Refusal::NotBlocks => 40,
+            Refusal::BadCheck => 41,
+            Refusal::OutOfTurn => 42,
+            Refusal::BadUsed => 43,
+            Refusal::NotZero => 44,
+            Refusal::NoRoom => 45,
         }
     }
+}
 
-    // Whether the call was done.
-    pub fn is_done(self) -> bool
-        ensures { result ≡ is_done self }
-    {
-        self.number() == Answer::Done.number()
+// The answer's number: 0 is done.
+pub fn number(answer: Answer) -> u32
+    ensures { result ≡ answer_number answer }
+{
+    match answer {
+        Ok(()) => 0,
+        Err(refusal) => refusal.number(),
     }
 }

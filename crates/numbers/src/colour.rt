@@ -3,40 +3,21 @@
 ghost use Rattle.std.specs.Prelude.{◌≡◌};
 ghost use Rattle.numbers.specs.Colour.{colour_of, the_colour, rows_up, columns_left};
 
-#[derive(Clone, Copy)]
+use crate::answer::Refusal;
+
+#[derive(Clone, Copy, Debug, PartialEq, Eq)]
 pub enum ColourDirection {
     Centre,
     Above,
     Left,
 }
 
-#[derive(Clone, Copy)]
-pub enum FoundColour {
-    Is(ColourDirection),
-    NoColour,
-}
-
 impl ColourDirection {
-    // The direction with this number.
-    pub fn of(direction: u32) -> FoundColour
-        ensures { result ≡ colour_of direction }
-    {
-        match direction {
-            0 => FoundColour::Is(ColourDirection::Centre),
-            1 => FoundColour::Is(ColourDirection::Above),
-            2 => FoundColour::Is(ColourDirection::Left),
-            _ => FoundColour::NoColour,
-        }
-    }
-
-    // The same of a number that refusal 10 let pass; of any other, the centre, as in mhccp.rs.
+    // The direction with a number that refusal 10 let pass; of any other, the centre, as in mhccp.rs.
     pub fn named(direction: u32) -> ColourDirection
         ensures { result ≡ the_colour direction }
     {
-        let FoundColour::Is(d) = ColourDirection::of(direction) else {
-            return ColourDirection::Centre;
-        };
-        d
+        ColourDirection::try_from(direction).unwrap_or(ColourDirection::Centre)
     }
 
     // How many rows above the centre the direction's luma stands.
@@ -58,6 +39,22 @@ impl ColourDirection {
             ColourDirection::Centre => 0,
             ColourDirection::Above => 0,
             ColourDirection::Left => 1,
+        }
+    }
+}
+
+// The direction with this number.
+impl TryFrom<u32> for ColourDirection {
+    type Error = Refusal;
+
+    ghost try_from_gives = { λ direction found. found ≡ colour_of direction };
+
+    fn try_from(direction: u32) -> Result<ColourDirection, Refusal> {
+        match direction {
+            0 => Ok(ColourDirection::Centre),
+            1 => Ok(ColourDirection::Above),
+            2 => Ok(ColourDirection::Left),
+            _ => Err(Refusal::BadColourDirection),
         }
     }
 }

@@ -2,34 +2,18 @@
 ghost use Rattle.std.specs.Prelude.{◌≡◌, pos};
 ghost use Rattle.numbers.specs.Depth.{depth_of, bits_of, most};
 
-#[derive(Clone, Copy)]
+use crate::answer::Refusal;
+
+#[derive(Clone, Copy, Debug, PartialEq, Eq)]
 pub enum Depth {
     Eight,
     Ten,
     Twelve,
 }
 
-#[derive(Clone, Copy)]
-pub enum FoundDepth {
-    Is(Depth),
-    NoDepth,
-}
-
 impl Depth {
     // The largest M of the three.
     pub const LARGEST: i32 = 4095;
-
-    // The depth whose D the word is.
-    pub fn of(d: u16) -> FoundDepth
-        ensures { result ≡ depth_of d }
-    {
-        match d {
-            8 => FoundDepth::Is(Depth::Eight),
-            10 => FoundDepth::Is(Depth::Ten),
-            12 => FoundDepth::Is(Depth::Twelve),
-            _ => FoundDepth::NoDepth,
-        }
-    }
 
     // The depth's M.
     pub fn max(self) -> i32
@@ -39,6 +23,22 @@ impl Depth {
             Depth::Eight => 255,
             Depth::Ten => 1023,
             Depth::Twelve => Depth::LARGEST,
+        }
+    }
+}
+
+// The depth whose D the word is.
+impl TryFrom<u16> for Depth {
+    type Error = Refusal;
+
+    ghost try_from_gives = { λ d found. found ≡ depth_of d };
+
+    fn try_from(d: u16) -> Result<Depth, Refusal> {
+        match d {
+            8 => Ok(Depth::Eight),
+            10 => Ok(Depth::Ten),
+            12 => Ok(Depth::Twelve),
+            _ => Err(Refusal::BadDepth),
         }
     }
 }

@@ -2,7 +2,9 @@
 ghost use Rattle.std.specs.Prelude.{◌≡◌};
 ghost use Rattle.numbers.specs.Size.{size_of};
 
-#[derive(Clone, Copy)]
+use crate::answer::Refusal;
+
+#[derive(Clone, Copy, Debug, PartialEq, Eq)]
 pub enum Size {
     B4,
     B8,
@@ -11,27 +13,25 @@ pub enum Size {
     B64,
 }
 
-#[derive(Clone, Copy)]
-pub enum FoundSize {
-    Is(Size),
-    NoSize,
-}
-
 impl Size {
     // Twice the largest B: how many entries an edge output has.
     pub const REF_CAP: usize = 128;
+}
 
-    // The size whose B the word is.
-    pub fn of(b: u16) -> FoundSize
-        ensures { result ≡ size_of b }
-    {
+// The size whose B the word is.
+impl TryFrom<u16> for Size {
+    type Error = Refusal;
+
+    ghost try_from_gives = { λ b found. found ≡ size_of b };
+
+    fn try_from(b: u16) -> Result<Size, Refusal> {
         match b {
-            4 => FoundSize::Is(Size::B4),
-            8 => FoundSize::Is(Size::B8),
-            16 => FoundSize::Is(Size::B16),
-            32 => FoundSize::Is(Size::B32),
-            64 => FoundSize::Is(Size::B64),
-            _ => FoundSize::NoSize,
+            4 => Ok(Size::B4),
+            8 => Ok(Size::B8),
+            16 => Ok(Size::B16),
+            32 => Ok(Size::B32),
+            64 => Ok(Size::B64),
+            _ => Err(Refusal::BadSize),
         }
     }
 }

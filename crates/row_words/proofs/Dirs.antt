@@ -2,21 +2,15 @@
 use mathlib.Core.Path.{◌≡◌, refl}
 use mathlib.Core.Bool.{true, false}
 use Prim.Native.Nat.{ℕ}
-use native.Mathlib.Omega.{arith}
 use Rattle.row_words.specs.Dir.{dir_number, dirs, dir_of, is_dir}
 use Rattle.row_words.specs.declared.dir.Dir.{Dir}
 use Rattle.row_words.specs.declared.dir.Dir.TheVariants.{Vertical, Horizontal, D45, D135, D113, D157, D203, D67}
-use Rattle.row_words.specs.declared.dir.FoundDir.TheVariants as found-dir
-use Rattle.numbers.proofs.Look.{look-back, look-yes, look-no}
+use Rattle.numbers.specs.declared.answer.Refusal.TheVariants.{BadMode}
+use Rattle.std.specs.Prelude.{Ok, Err}
+use Rattle.numbers.proofs.Look.{look-back, look-yes, look-no, ok-same, err-ok}
 
 -- ---- Dir
-same-dir : (a b : Dir) → found-dir.Is a ≡ found-dir.Is b → a ≡ b
-same-dir a b h = cc
-
-no-dir : (e : Dir) → found-dir.NoDir ≡ found-dir.Is e → ⊥
-no-dir e h = let z : ◌≡◌ {A = ℕ} 0 1 = cc in omega arith
-
-pub dir-there : (e : Dir) → dir_of (dir_number e) ≡ found-dir.Is e
+pub dir-there : (e : Dir) → dir_of (dir_number e) ≡ Ok e
 dir-there Vertical = refl
 dir-there Horizontal = refl
 dir-there D45 = refl
@@ -26,14 +20,14 @@ dir-there D157 = refl
 dir-there D203 = refl
 dir-there D67 = refl
 
-pub dir-back : (n : ℕ) (e : Dir) → dir_of n ≡ found-dir.Is e → dir_number e ≡ n
-dir-back n e h = look-back dir_number found-dir.Is found-dir.NoDir same-dir no-dir dirs n e h
+pub dir-back : (n : ℕ) (e : Dir) → dir_of n ≡ Ok e → dir_number e ≡ n
+dir-back n e h = look-back dir_number Ok (Err BadMode) ok-same (err-ok BadMode) dirs n e h
 
 -- the test, and what the code finds
-pub dir-yes : (n : ℕ) (e : Dir) → dir_of n ≡ found-dir.Is e → is_dir n ≡ true
+pub dir-yes : (n : ℕ) (e : Dir) → dir_of n ≡ Ok e → is_dir n ≡ true
 unfolding is_dir
-dir-yes n e h = look-yes dir_number found-dir.Is found-dir.NoDir same-dir no-dir dirs n e h
+dir-yes n e h = look-yes dir_number Ok (Err BadMode) ok-same (err-ok BadMode) dirs n e h
 
-pub dir-no : (n : ℕ) → dir_of n ≡ found-dir.NoDir → is_dir n ≡ false
+pub dir-no : (n : ℕ) → dir_of n ≡ Err BadMode → is_dir n ≡ false
 unfolding is_dir
-dir-no n h = look-no dir_number found-dir.Is found-dir.NoDir same-dir no-dir dirs n h
+dir-no n h = look-no dir_number Ok (Err BadMode) ok-same (err-ok BadMode) dirs n h

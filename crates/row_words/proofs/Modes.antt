@@ -11,12 +11,12 @@ use Rattle.signed.proofs.Parts.{up, dn, same, add, sub, abs, one}
 use Rattle.row_words.specs.Dir.{dir_number, dir_of, is_delta, delta_of}
 use Rattle.row_words.specs.Mode.{direction_mode, directed_mode, named_mode, StandFor, DeltaInRange}
 use Rattle.row_words.specs.declared.dir.Dir.{Dir}
-use Rattle.row_words.specs.declared.dir.FoundDir.{FoundDir}
-use Rattle.row_words.specs.declared.dir.FoundDir.TheVariants as found-dir
 use Rattle.row_words.specs.declared.mode.Mode.{Mode}
 use Rattle.row_words.specs.declared.mode.Mode.TheVariants.{Paeth, Smooth, SmoothV, SmoothH, Directional}
-use Rattle.row_words.specs.declared.mode.FoundMode.{FoundMode}
-use Rattle.row_words.specs.declared.mode.FoundMode.TheVariants.{Is, NoMode}
+use Rattle.numbers.specs.declared.answer.Refusal.{Refusal}
+use Rattle.numbers.specs.declared.answer.Refusal.TheVariants.{BadMode}
+use Rattle.numbers.proofs.Look.{ok-same, err-ok}
+use Rattle.std.specs.Prelude.{Result, Ok, Err}
 use Rattle.row_words.proofs.Dirs.{dir-there, dir-back}
 use Rattle.row_words.proofs.Angle.{delta-small}
 
@@ -45,14 +45,14 @@ word-is word = same _ _ (omega (arith, sub (pos word) (pos 3), add (pos word -�
 -- ---- words that stand for a mode name it
 
 module _ (direction delta : ℕ) (d : Dir) (z : ℤ) (small : nat_abs z ≤ 3) (dir-is : direction ≡ dir_number d) (word : pos delta ≡ z +ℤ pos 3) where
-  directed : directed_mode (dir_of direction) delta ≡ Is (Directional d z)
+  directed : directed_mode (dir_of direction) delta ≡ Ok (Directional d z)
   directed =
       ap (λ n. directed_mode (dir_of n) delta) dir-is
       ∙ ap (λ f. directed_mode f delta) (dir-there d)
-      ∙ ap (λ t. cond t (Is (Directional d (delta_of delta))) NoMode) (word-most delta z small word)
-      ∙ ap (λ x. Is (Directional d x)) (delta-is delta z word)
+      ∙ ap (λ t. cond t (Ok (Directional d (delta_of delta))) (Err BadMode)) (word-most delta z small word)
+      ∙ ap (λ x. Ok (Directional d x)) (delta-is delta z word)
 
-pub mode-there : (mode direction delta : ℕ) (m : Mode) → DeltaInRange m → StandFor mode direction delta m → named_mode mode direction delta ≡ Is m
+pub mode-there : (mode direction delta : ℕ) (m : Mode) → DeltaInRange m → StandFor mode direction delta m → named_mode mode direction delta ≡ Ok m
 unfolding named_mode
 mode-there mode direction delta Paeth r e = rw e
 mode-there mode direction delta Smooth r e = rw e
@@ -62,39 +62,36 @@ mode-there mode direction delta (Directional d z) r e = rw e.0 (directed directi
 
 -- ---- and words that name a mode stand for it
 
-none : {A : Type 0} (e : Mode) → NoMode ≡ Is e → A
-none e h = let z : ◌≡◌ {A = ℕ} 0 1 = cc in absurd (omega arith)
-
-same-mode : (a b : Mode) → Is a ≡ Is b → a ≡ b
-same-mode a b h = cc
+none : {A : Type 0} (r : Refusal) (e : Mode) → ◌≡◌ {A = Result Mode Refusal} (Err r) (Ok e) → A
+none r e h = absurd (err-ok r e h)
 
 module _ (mode direction delta : ℕ) where
   abbrev Stands : Mode → Type 0
   Stands m = StandFor mode direction delta m × DeltaInRange m
 
   -- a mode that was found
-  found : (a e : Mode) → Stands a → Is a ≡ Is e → Stands e
-  found a e s h = subst Stands (same-mode a e h) s
+  found : (a e : Mode) → Stands a → ◌≡◌ {A = Result Mode Refusal} (Ok a) (Ok e) → Stands e
+  found a e s h = subst Stands (ok-same a e h) s
 
-  directed-back : (f : FoundDir) (e : Mode) → mode ≡ direction_mode → dir_of direction ≡ f → directed_mode f delta ≡ Is e → Stands e
-  directed-back (found-dir.Is d) e m q h = go (is_delta delta) refl h
+  directed-back : (f : Result Dir Refusal) (e : Mode) → mode ≡ direction_mode → dir_of direction ≡ f → directed_mode f delta ≡ Ok e → Stands e
+  directed-back (Ok d) e m q h = go (is_delta delta) refl h
     where
-      go : (t : Bool) → is_delta delta ≡ t → cond t (Is (Directional d (delta_of delta))) NoMode ≡ Is e → Stands e
+      go : (t : Bool) → is_delta delta ≡ t → cond t (Ok (Directional d (delta_of delta))) (Err BadMode) ≡ Ok e → Stands e
       go true t h = found _ e ((m, sym (dir-back direction d q), word-is delta), delta-small delta t) h
-      go false t h = none e h
-  directed-back found-dir.NoDir e m q h = none e h
+      go false t h = none BadMode e h
+  directed-back (Err r) e m q h = none r e h
 
   -- one case of the lookup
-  case : (e : Mode) (n : ℕ) (this later : FoundMode) → (mode ≡ n → this ≡ Is e → Stands e) → (later ≡ Is e → Stands e)
-      → cond (eqb mode n) this later ≡ Is e → Stands e
+  case : (e : Mode) (n : ℕ) (this later : Result Mode Refusal) → (mode ≡ n → this ≡ Ok e → Stands e) → (later ≡ Ok e → Stands e)
+      → cond (eqb mode n) this later ≡ Ok e → Stands e
   case e n this later here after = go (eqb mode n) refl
     where
-      go : (t : Bool) → eqb mode n ≡ t → cond t this later ≡ Is e → Stands e
+      go : (t : Bool) → eqb mode n ≡ t → cond t this later ≡ Ok e → Stands e
       go true q h = here (eqb-true mode n q) h
       go false q h = after h
 
-  pub mode-back : (m : Mode) → named_mode mode direction delta ≡ Is m → StandFor mode direction delta m × DeltaInRange m
+  pub mode-back : (m : Mode) → named_mode mode direction delta ≡ Ok m → StandFor mode direction delta m × DeltaInRange m
   unfolding named_mode
   mode-back m =
       case m 0 _ _ (λ q. found Paeth m (q, tt)) (case m 1 _ _ (λ q. found Smooth m (q, tt)) (case m 2 _ _ (λ q. found SmoothV m (q, tt))
-      (case m 3 _ _ (λ q. found SmoothH m (q, tt)) (case m direction_mode _ NoMode (λ q. directed-back (dir_of direction) m q refl) (none m)))))
+      (case m 3 _ _ (λ q. found SmoothH m (q, tt)) (case m direction_mode _ (Err BadMode) (λ q. directed-back (dir_of direction) m q refl) (none BadMode m)))))

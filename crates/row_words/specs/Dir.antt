@@ -1,10 +1,10 @@
 -- "Directions 0 to 7: V 90, H 180, D45, D135, D113, D157, D203, D67; the angle is the direction's degrees plus 3 times delta, delta -3 to 3."
-use Rattle.std.specs.Prelude.{Bool, List, [], ◌∷◌, ℕ, leb, ℤ, pos, ◌+ℤ◌, ◌-ℤ◌, ◌*ℤ◌}
+use Rattle.std.specs.Prelude.{Bool, List, [], ◌∷◌, ℕ, leb, ℤ, pos, ◌+ℤ◌, ◌-ℤ◌, ◌*ℤ◌, Result, Ok, Err}
 use Rattle.numbers.specs.Look.{look, among}
 use Rattle.row_words.specs.declared.dir.Dir.{Dir}
 use Rattle.row_words.specs.declared.dir.Dir.TheVariants.{Vertical, Horizontal, D45, D135, D113, D157, D203, D67}
-use Rattle.row_words.specs.declared.dir.FoundDir.{FoundDir}
-use Rattle.row_words.specs.declared.dir.FoundDir.TheVariants.{Is, NoDir}
+use Rattle.numbers.specs.declared.answer.Refusal.{Refusal}
+use Rattle.numbers.specs.declared.answer.Refusal.TheVariants.{BadMode}
 
 -- case to number
 abbrev pub dir_number : Dir → ℕ
@@ -21,8 +21,8 @@ abbrev pub dirs : List Dir
 dirs = Vertical ∷ Horizontal ∷ D45 ∷ D135 ∷ D113 ∷ D157 ∷ D203 ∷ D67 ∷ []
 
 -- number to case
-abbrev pub dir_of : ℕ → FoundDir
-dir_of n = look dir_number Is NoDir dirs n
+abbrev pub dir_of : ℕ → Result Dir Refusal
+dir_of n = look dir_number Ok (Err BadMode) dirs n
 
 -- n is one of the eight
 unfoldable pub is_dir : ℕ → Bool

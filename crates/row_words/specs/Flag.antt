@@ -1,6 +1,6 @@
 -- "Flag bits: 0 above is there, 1 left is there, 2 luma, 3 edge filter, 4 smooth neighbour; others zero."
-use Rattle.std.specs.Prelude.{Bool, List, [], ◌∷◌, ℕ, ◌/◌, ◌%◌, ◌^◌, eqb, ltb, length}
-use Rattle.numbers.specs.Look.{look, Maybe, only, nothing}
+use Rattle.std.specs.Prelude.{Bool, List, [], ◌∷◌, ℕ, ◌/◌, ◌%◌, ◌^◌, eqb, ltb, length, Option, Some, None}
+use Rattle.numbers.specs.Look.{look}
 use Rattle.row_words.specs.declared.flag.Flag.{Flag}
 use Rattle.row_words.specs.declared.flag.Flag.TheVariants.{Above, Left, Luma, EdgeFilter, SmoothNeighbour}
 use Rattle.row_words.specs.declared.flag.Flags.{Flags}
@@ -17,8 +17,8 @@ abbrev pub flags : List Flag
 flags = Above ∷ Left ∷ Luma ∷ EdgeFilter ∷ SmoothNeighbour ∷ []
 
 -- number to case
-abbrev pub flag_of : ℕ → Maybe Flag
-flag_of n = look flag_bit only nothing flags n
+abbrev pub flag_of : ℕ → Option Flag
+flag_of n = look flag_bit Some None flags n
 
 -- the flag's bit of the word is 1
 unfoldable pub is_set : Flag → ℕ → Bool

@@ -1,13 +1,12 @@
 -- "Modes: 0 Paeth, 1 smooth, 2 smooth_v, 3 smooth_h, 4 a direction with its delta."
-use Rattle.std.specs.Prelude.{◌≡◌, Bool, true, false, cond, List, [], ◌∷◌, ℕ, ◌≤◌, eqb, pos, nat_abs, ◌+ℤ◌}
+use Rattle.std.specs.Prelude.{◌≡◌, Bool, true, false, cond, List, [], ◌∷◌, ℕ, ◌≤◌, eqb, pos, nat_abs, ◌+ℤ◌, Result, Ok, Err}
 use Rattle.numbers.specs.Look.{look}
 use Rattle.row_words.specs.Dir.{dir_number, dir_of, is_delta, delta_of}
-use Rattle.row_words.specs.declared.dir.FoundDir.{FoundDir}
-use Rattle.row_words.specs.declared.dir.FoundDir.TheVariants as found-dir
 use Rattle.row_words.specs.declared.mode.Mode.{Mode}
 use Rattle.row_words.specs.declared.mode.Mode.TheVariants.{Paeth, Smooth, SmoothV, SmoothH, Directional}
-use Rattle.row_words.specs.declared.mode.FoundMode.{FoundMode}
-use Rattle.row_words.specs.declared.mode.FoundMode.TheVariants.{Is, NoMode}
+use Rattle.numbers.specs.declared.answer.Refusal.{Refusal}
+use Rattle.numbers.specs.declared.answer.Refusal.TheVariants.{BadMode}
+use Rattle.row_words.specs.declared.dir.Dir.{Dir}
 
 -- "4 a direction with its delta"
 abbrev pub direction_mode : ℕ
@@ -28,19 +27,19 @@ abbrev pub plain_modes : List Mode
 plain_modes = Paeth ∷ Smooth ∷ SmoothV ∷ SmoothH ∷ []
 
 -- a direction that was looked up, and the word of its delta
-abbrev pub directed_mode : FoundDir → ℕ → FoundMode
-directed_mode (found-dir.Is dir) delta = cond (is_delta delta) (Is (Directional dir (delta_of delta))) NoMode
-directed_mode found-dir.NoDir delta = NoMode
+abbrev pub directed_mode : Result Dir Refusal → ℕ → Result Mode Refusal
+directed_mode (Ok dir) delta = cond (is_delta delta) (Ok (Directional dir (delta_of delta))) (Err BadMode)
+directed_mode (Err refusal) delta = Err refusal
 
 -- the words mode, direction and delta
-unfoldable pub named_mode : ℕ → ℕ → ℕ → FoundMode
+unfoldable pub named_mode : ℕ → ℕ → ℕ → Result Mode Refusal
 named_mode mode direction delta =
-    look mode_number Is (cond (eqb mode direction_mode) (directed_mode (dir_of direction) delta) NoMode) plain_modes mode
+    look mode_number Ok (cond (eqb mode direction_mode) (directed_mode (dir_of direction) delta) (Err BadMode)) plain_modes mode
 
 -- they name one
-abbrev pub is_found : FoundMode → Bool
-is_found (Is mode) = true
-is_found NoMode = false
+abbrev pub is_found : Result Mode Refusal → Bool
+is_found (Ok mode) = true
+is_found (Err refusal) = false
 
 -- ---- the words that stand for a mode: its number, and in mode 4 its direction's number and its delta + 3. The others count in mode 4 alone.
 abbrev pub StandFor : ℕ → ℕ → ℕ → Mode → Type 0

@@ -1,7 +1,7 @@
 -- "0 x, 1 y, 2 B, 3 D, 4 mode, 5 direction, 6 delta + 3, 7 flags, 8 top-right, 9 bottom-left, 10 available-above, 11 available-left,
 -- 12 base, 13 max-width, 14 max-height, 15 start of the differences in units of 16"
-use Rattle.std.specs.Prelude.{List, [], ◌∷◌, ℕ}
-use Rattle.numbers.specs.Look.{look, Maybe, only, nothing}
+use Rattle.std.specs.Prelude.{List, [], ◌∷◌, ℕ, Option, Some, None}
+use Rattle.numbers.specs.Look.{look}
 use Rattle.row_words.specs.declared.word.Word.{Word}
 use Rattle.row_words.specs.declared.word.Word.TheVariants.{X, Y, Side, Bits, ModeWord, DirectionWord, DeltaWord, FlagWord, TopRight, BottomLeft, AvailableAbove, AvailableLeft, Base, MaxWidth, MaxHeight, Differences}
 
@@ -30,5 +30,5 @@ words =
     TopRight ∷ BottomLeft ∷ AvailableAbove ∷ AvailableLeft ∷ Base ∷ MaxWidth ∷ MaxHeight ∷ Differences ∷ []
 
 -- number to case
-abbrev pub word_of : ℕ → Maybe Word
-word_of n = look word_place only nothing words n
+abbrev pub word_of : ℕ → Option Word
+word_of n = look word_place Some None words n

@@ -3,7 +3,9 @@
 ghost use Rattle.std.specs.Prelude.{◌≡◌, true, ◌≤◌, pos, nat_abs};
 ghost use Rattle.row_words.specs.Dir.{dir_of, degrees_of, angle_of, is_delta, delta_of};
 
-#[derive(Clone, Copy)]
+use numbers::answer::Refusal;
+
+#[derive(Clone, Copy, Debug, PartialEq, Eq)]
 pub enum Dir {
     Vertical,
     Horizontal,
@@ -15,34 +17,11 @@ pub enum Dir {
     D67,
 }
 
-#[derive(Clone, Copy)]
-pub enum FoundDir {
-    Is(Dir),
-    NoDir,
-}
-
 impl Dir {
     // A delta is so many degrees, and is -FARTHEST to FARTHEST; a row holds delta + FARTHEST.
     pub const STEP: i32 = 3;
 
     pub const FARTHEST: i32 = 3;
-
-    // The direction whose number the word is.
-    pub fn of(direction: u16) -> FoundDir
-        ensures { result ≡ dir_of direction }
-    {
-        match direction {
-            0 => FoundDir::Is(Dir::Vertical),
-            1 => FoundDir::Is(Dir::Horizontal),
-            2 => FoundDir::Is(Dir::D45),
-            3 => FoundDir::Is(Dir::D135),
-            4 => FoundDir::Is(Dir::D113),
-            5 => FoundDir::Is(Dir::D157),
-            6 => FoundDir::Is(Dir::D203),
-            7 => FoundDir::Is(Dir::D67),
-            _ => FoundDir::NoDir,
-        }
-    }
 
     // The direction's degrees.
     pub fn angle(self) -> i32
@@ -81,5 +60,26 @@ impl Dir {
         ensures { result ≡ delta_of word }
     {
         word as i32 - Dir::FARTHEST
+    }
+}
+
+// The direction whose number the word is.
+impl TryFrom<u16> for Dir {
+    type Error = Refusal;
+
+    ghost try_from_gives = { λ direction found. found ≡ dir_of direction };
+
+    fn try_from(direction: u16) -> Result<Dir, Refusal> {
+        match direction {
+            0 => Ok(Dir::Vertical),
+            1 => Ok(Dir::Horizontal),
+            2 => Ok(Dir::D45),
+            3 => Ok(Dir::D135),
+            4 => Ok(Dir::D113),
+            5 => Ok(Dir::D157),
+            6 => Ok(Dir::D203),
+            7 => Ok(Dir::D67),
+            _ => Err(Refusal::BadMode),
+        }
     }
 }

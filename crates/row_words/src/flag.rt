@@ -3,7 +3,7 @@
 ghost use Rattle.std.specs.Prelude.{◌≡◌};
 ghost use Rattle.row_words.specs.Flag.{flag_bit, is_set, no_stray, flags_of};
 
-#[derive(Clone, Copy)]
+#[derive(Clone, Copy, Debug, PartialEq, Eq)]
 pub enum Flag {
     Above,
     Left,
@@ -13,7 +13,7 @@ pub enum Flag {
 }
 
 // The flags of a word, one by one.
-#[derive(Clone, Copy)]
+#[derive(Clone, Copy, Debug, PartialEq, Eq)]
 pub struct Flags {
     pub above: bool,
     pub left: bool,
@@ -62,6 +62,7 @@ impl Flags {
     }
 
     // Whether every bit that is no flag's is zero.
+    #[tactic(auto, unfolding(crate::specs::Flag::no_stray))]
     pub fn no_stray(word: u16) -> bool
         ensures { result ≡ no_stray word }
     {

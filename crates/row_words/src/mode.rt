@@ -3,10 +3,11 @@ ghost use Rattle.std.specs.Prelude.{◌≡◌};
 ghost use Rattle.row_words.specs.Dir.{dir_of};
 ghost use Rattle.row_words.specs.Mode.{directed_mode, named_mode};
 
-use crate::dir::{Dir, FoundDir};
+use crate::dir::Dir;
+use numbers::answer::Refusal;
 
 // A job's mode is one value: a plain name, or a direction with its delta.
-#[derive(Clone, Copy)]
+#[derive(Clone, Copy, Debug, PartialEq, Eq)]
 pub enum Mode {
     Paeth,
     Smooth,
@@ -15,37 +16,30 @@ pub enum Mode {
     Directional(Dir, i32),
 }
 
-#[derive(Clone, Copy)]
-pub enum FoundMode {
-    Is(Mode),
-    NoMode,
-}
-
 impl Mode {
     // A direction with its delta, by their words.
-    fn directed(direction: u16, delta: u16) -> FoundMode
+    fn directed(direction: u16, delta: u16) -> Result<Mode, Refusal>
         ensures { result ≡ directed_mode (dir_of direction) delta }
     {
-        let FoundDir::Is(dir) = Dir::of(direction) else {
-            return FoundMode::NoMode;
-        };
+        let dir = Dir::try_from(direction)?;
         if !Dir::is_delta(delta) {
-            return FoundMode::NoMode;
+            return Err(Refusal::BadMode);
         }
-        FoundMode::Is(Mode::Directional(dir, Dir::delta(delta)))
+        Ok(Mode::Directional(dir, Dir::delta(delta)))
     }
 
-    // The mode that a row's words mode, direction and delta name.
-    pub fn of(mode: u16, direction: u16, delta: u16) -> FoundMode
+    // The mode that a row's words mode, direction and delta name, or refusal 3.
+    #[tactic(auto, unfolding(crate::specs::Mode::named_mode))]
+    pub fn of(mode: u16, direction: u16, delta: u16) -> Result<Mode, Refusal>
         ensures { result ≡ named_mode mode direction delta }
     {
         match mode {
-            0 => FoundMode::Is(Mode::Paeth),
-            1 => FoundMode::Is(Mode::Smooth),
-            2 => FoundMode::Is(Mode::SmoothV),
-            3 => FoundMode::Is(Mode::SmoothH),
+            0 => Ok(Mode::Paeth),
+            1 => Ok(Mode::Smooth),
+            2 => Ok(Mode::SmoothV),
+            3 => Ok(Mode::SmoothH),
             4 => Mode::directed(direction, delta),
-            _ => FoundMode::NoMode,
+            _ => Err(Refusal::BadMode),
         }
     }
 }

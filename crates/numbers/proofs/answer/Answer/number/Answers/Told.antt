@@ -1,1 +1,0 @@
--- What each case of `Answer::number` is told of the answer. Assumes nothing.
