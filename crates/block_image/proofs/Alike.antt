@@ -6,8 +6,7 @@ use Prim.Native.Nat.{ℕ, zero, suc, ◌+◌, ◌-◌, ◌*◌, ◌%◌, ◌^◌
 use native.Mathlib.Omega.{arith}
 use lib.Dec.{eqb}
 use Rattle.signed.proofs.Range.{and_both}
-use Rattle.numbers.specs.declared.answer.Answer.{Answer}
-use Rattle.numbers.specs.declared.answer.Answer.TheVariants.{Done, BadCheck, OutOfTurn, BadUsed, NotZero}
+use Rattle.numbers.specs.declared.answer.Refusal.TheVariants.{BadCheck, OutOfTurn, BadUsed, NotZero}
 use Rattle.block_image.specs.Bytes.{word32}
 use Rattle.block_image.specs.Rules.{block_bytes, used_at, is_check, is_index, is_used, all_zero, is_zero}
 use Rattle.block_image.specs.Taken.{blocks_in, is_block}
@@ -16,13 +15,14 @@ use Rattle.block_image.specs.Fits.{Fits}
 use Rattle.block_image.specs.declared.format.Format.{Format}
 use Rattle.block_image.proofs.Fits.{rows_apart}
 use Rattle.block_image.proofs.Sum.{sum_same}
+use Rattle.numbers.specs.Answer.{done, Answer}
 
 -- the answer, by what the four tests say
 abbrev by : Bool → Bool → Bool → Bool → Answer
-by check index used zeros = cond check (cond index (cond used (cond zeros Done NotZero) BadUsed) OutOfTurn) BadCheck
+by check index used zeros = cond check (cond index (cond used (cond zeros done NotZero) BadUsed) OutOfTurn) BadCheck
 
 pub block-done : (F : Format) (bytes : List ℕ) (k : ℕ) → is_block F bytes k ≡ true
-    → block_answer F (eqb (k + 1) (blocks_in bytes)) k (block_bytes bytes k) ≡ Done
+    → block_answer F (eqb (k + 1) (blocks_in bytes)) k (block_bytes bytes k) ≡ done
 unfolding block_answer
 block-done F bytes k e =
     let at = block_bytes bytes k in

@@ -10,8 +10,8 @@ use native.Mathlib.Omega.{arith}
 use lib.Dec.{eqb}
 use lib.ListN.{length, get_or}
 use Rattle.signed.proofs.Naturals.{either}
-use Rattle.numbers.specs.Answer.{is_done}
-use Rattle.numbers.specs.declared.answer.Answer.TheVariants.{Done, BadCheck}
+use Rattle.numbers.specs.Answer.{is_done, done}
+use Rattle.numbers.specs.declared.answer.Refusal.TheVariants.{BadCheck}
 use Rattle.refusals.specs.Ladder.{ladder}
 use Rattle.refusals.proofs.Ladder.{broken}
 use Rattle.block_image.specs.Bytes.{word32, byte_of}
@@ -38,7 +38,7 @@ module _ (F : Format) (fit : Fits F) (bytes bytes' : List ℕ) (small : (i : ℕ
   n-is = ap (λ (x : ℕ). x / 512) size
 
   -- the first k blocks are the same
-  before : (k : ℕ) → k ≤ n → ((i : ℕ) → i < 512 * k → get_or bytes i 0 ≡ get_or bytes' i 0) → ladder (blocks_rules F bytes' k) ≡ Done
+  before : (k : ℕ) → k ≤ n → ((i : ℕ) → i < 512 * k → get_or bytes i 0 ≡ get_or bytes' i 0) → ladder (blocks_rules F bytes' k) ≡ done
   before zero h same = blocks-none F bytes'
   before (suc k) h same =
       let b = accepted.each k (omega arith) in

@@ -2,7 +2,7 @@
 use mathlib.Core.Path.{◌≡◌}
 use mathlib.Core.Bool.{Bool, true, false}
 use Prim.Native.Nat.{ℕ}
-use Rattle.numbers.specs.declared.answer.Answer.TheVariants.{BadCheck, OutOfTurn, BadUsed, NotZero}
+use Rattle.numbers.specs.declared.answer.Refusal.TheVariants.{BadCheck, OutOfTurn, BadUsed, NotZero}
 use Rattle.block_image.specs.Rules.{used_at, is_check, is_index, is_used, is_zero}
 use Rattle.block_image.specs.Refusals.{block_answer}
 use Rattle.block_image.specs.declared.format.Format.{Format}

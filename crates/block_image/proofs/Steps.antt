@@ -4,8 +4,8 @@ use mathlib.Core.Bool.{true, false}
 use mathlib.Core.List.{List, [], ◌∷◌, ◌++◌}
 use Prim.Native.Nat.{ℕ, ◌*◌}
 use lib.ListN.{length}
-use Rattle.numbers.specs.Answer.{is_done}
-use Rattle.numbers.specs.declared.answer.Answer.TheVariants.{Done, NotBlocks, NoRoom}
+use Rattle.numbers.specs.Answer.{is_done, done}
+use Rattle.numbers.specs.declared.answer.Refusal.TheVariants.{NotBlocks, NoRoom}
 use Rattle.refusals.specs.Ladder.{Rule, ◌else◌, ladder}
 use Rattle.refusals.proofs.Ladder.{kept, broken, segment-kept, segment-broken}
 use Rattle.block_image.specs.Rules.{is_whole}
@@ -33,7 +33,7 @@ module _ (F : Format) (bytes : List ℕ) (room slots : ℕ) where
     unfolding file_answer
     block_refused e = segment-broken blocks last (refuses-all F bytes (blocks_in bytes)) e first-kept
 
-    module _ (done : ladder blocks ≡ Done) where
+    module _ (done : ladder blocks ≡ done) where
       blocks-kept : ladder (file_rules F bytes room slots) ≡ ladder last
       unfolding is_done
       blocks-kept = segment-kept blocks last (refuses-all F bytes (blocks_in bytes)) (ap is_done done) first-kept
@@ -42,6 +42,6 @@ module _ (F : Format) (bytes : List ℕ) (room slots : ℕ) where
       unfolding file_answer
       no_room e = broken _ _ _ _ e blocks-kept
 
-      pub all-passed : has_room (rows_of F bytes * F.words) room slots ≡ true → file_answer F bytes room slots ≡ Done
+      pub all-passed : has_room (rows_of F bytes * F.words) room slots ≡ true → file_answer F bytes room slots ≡ done
       unfolding file_answer
       all-passed e = kept _ _ _ _ e blocks-kept

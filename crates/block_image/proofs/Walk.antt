@@ -7,8 +7,7 @@ use Prim.Native.Nat.{ℕ, zero, suc, ◌+◌, ◌≤◌}
 use native.Mathlib.Nat.{eq-or-lt_of_le, le_of_suc-le-suc}
 use native.Mathlib.Omega.{arith}
 use lib.Dec.{T, eqb}
-use Rattle.numbers.specs.Answer.{is_done}
-use Rattle.numbers.specs.declared.answer.Answer.TheVariants.{Done}
+use Rattle.numbers.specs.Answer.{is_done, done}
 use Rattle.refusals.specs.Ladder.{Rule, ladder}
 use Rattle.refusals.proofs.Ladder.{refuses, refuses-append, ladder-append}
 use Rattle.block_image.specs.Rules.{block_bytes}
@@ -25,12 +24,12 @@ module _ (F : Format) (bytes : List ℕ) where
   refuses-all zero = tt
   refuses-all (suc k) = refuses-append (blocks_rules F bytes k) (of k) (refuses-all k) tt
 
-  pub blocks-none : ladder (blocks_rules F bytes 0) ≡ Done
+  pub blocks-none : ladder (blocks_rules F bytes 0) ≡ done
   unfolding blocks_rules
   blocks-none = refl
 
   -- the blocks before it are kept
-  pub blocks-next : (k : ℕ) → ladder (blocks_rules F bytes k) ≡ Done
+  pub blocks-next : (k : ℕ) → ladder (blocks_rules F bytes k) ≡ done
       → ladder (blocks_rules F bytes (suc k)) ≡ block_answer F (eqb (k + 1) (blocks_in bytes)) k (block_bytes bytes k)
   unfolding blocks_rules block_answer is_done
   blocks-next k e = ladder-append (blocks_rules F bytes k) (of k) (refuses-all k) ∙ ap (λ a. cond (is_done a) (ladder (of k)) a) e

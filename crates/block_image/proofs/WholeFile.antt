@@ -12,7 +12,7 @@ use Rattle.signed.proofs.Range.{and_both}
 use lib.ListN.{length}
 use Rattle.signed.proofs.Naturals.{either}
 use Rattle.numbers.specs.Limits.{most_jobs}
-use Rattle.numbers.specs.declared.answer.Answer.TheVariants.{Done, NoRoom}
+use Rattle.numbers.specs.declared.answer.Refusal.TheVariants.{NoRoom}
 use Rattle.refusals.specs.Ladder.{Rule, ◌else◌, ladder}
 use Rattle.refusals.proofs.Ladder.{AllKept, all-kept, kept_append, refuses-append}
 use Rattle.block_image.specs.Rules.{block_bytes, is_whole}
@@ -22,6 +22,7 @@ use Rattle.block_image.proofs.Block.{shown}
 use Rattle.block_image.proofs.RowsOf.{rows_none, rows-some}
 use Rattle.block_image.specs.Refusals.{block_rules, blocks_rules, has_room, file_rules, file_answer}
 use Rattle.block_image.proofs.Walk.{refuses-all}
+use Rattle.numbers.specs.Answer.{done}
 
 pub room-parts : (need room slots : ℕ) → has_room need room slots ≡ true → (need ≤ room) × (1 ≤ slots)
 unfolding has_room
@@ -45,11 +46,11 @@ module _ (F : Format) (bytes : List ℕ) where
         each = λ k l. let p = each-kept (blocks_in bytes) k l all in λ j. p.0 j && p.1.0 j && p.1.1.0 j && p.1.1.1.0 j;
       }
 
-  pub accepted-of : is_whole F (length bytes) ≡ true → ladder (blocks_rules F bytes (blocks_in bytes)) ≡ Done → WholeFile F bytes
+  pub accepted-of : is_whole F (length bytes) ≡ true → ladder (blocks_rules F bytes (blocks_in bytes)) ≡ done → WholeFile F bytes
   accepted-of w e = accepted-by w (all-kept (blocks_rules F bytes (blocks_in bytes)) (refuses-all F bytes (blocks_in bytes)) e)
 
   -- a reading that is done
-  pub read_done : (room slots : ℕ) → file_answer F bytes room slots ≡ Done → WholeFile F bytes × (has_room (rows_of F bytes * F.words) room slots ≡ true)
+  pub read_done : (room slots : ℕ) → file_answer F bytes room slots ≡ done → WholeFile F bytes × (has_room (rows_of F bytes * F.words) room slots ≡ true)
   unfolding file_answer
   read_done room slots e =
       let rules = blocks_rules F bytes (blocks_in bytes) in

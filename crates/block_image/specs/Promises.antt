@@ -1,7 +1,6 @@
 -- What reading and writing leave: "A refusal changes nothing lent." (document 01); a list longer than needed keeps its tail.
 use Rattle.std.specs.Prelude.{List, ℕ, ◌*◌, length}
-use Rattle.numbers.specs.Answer.{answer_number}
-use Rattle.numbers.specs.declared.answer.Answer.{Answer}
+use Rattle.numbers.specs.Answer.{answer_number, Answer}
 use Rattle.refusals.specs.Promise.{lent, Promise}
 use Rattle.lists.specs.Fill.{filled}
 use Rattle.block_image.specs.Image.{image_byte, image_size}

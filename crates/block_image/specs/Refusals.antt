@@ -2,13 +2,13 @@
 -- 45 lent buffer short; per block in that order, 40 first and 45 last; the writer gives 21, then 45." (document 02, request (iv))
 use Rattle.std.specs.Prelude.{Bool, ◌&&◌, List, [], ◌∷◌, ◌++◌, ℕ, zero, suc, ◌+◌, ◌*◌, ◌%◌, eqb, leb, length}
 use Rattle.numbers.specs.Limits.{most_jobs}
-use Rattle.numbers.specs.declared.answer.Answer.{Answer}
-use Rattle.numbers.specs.declared.answer.Answer.TheVariants.{BadPlan, NotBlocks, BadCheck, OutOfTurn, BadUsed, NotZero, NoRoom}
+use Rattle.numbers.specs.declared.answer.Refusal.TheVariants.{BadPlan, NotBlocks, BadCheck, OutOfTurn, BadUsed, NotZero, NoRoom}
 use Rattle.refusals.specs.Ladder.{Rule, ◌else◌, ladder}
 use Rattle.block_image.specs.Image.{rows_in, image_size}
 use Rattle.block_image.specs.Rules.{block_bytes, used_at, is_whole, is_check, is_index, is_used, is_zero}
 use Rattle.block_image.specs.Taken.{blocks_in, rows_of}
 use Rattle.block_image.specs.declared.format.Format.{Format}
+use Rattle.numbers.specs.Answer.{Answer}
 
 -- of one block
 abbrev pub block_rules : Format → Bool → ℕ → (ℕ → ℕ) → List Rule

@@ -11,7 +11,7 @@ use crate::tests;
 use block_image::format::Format;
 use block_words::bytes::word_32;
 use block_words::check::check_of;
-use numbers::answer::Answer;
+use numbers::answer::{Answer, Refusal};
 
 // 44: the bytes before the rows, and those of unused rows.
 fn is_zero(f: Format, bytes: &[u8], o: usize, used: usize) -> bool
@@ -32,18 +32,18 @@ fn block_answer(f: Format, bytes: &[u8], o: usize, k: usize, last: bool, used: u
     ensures { result ≡ block_answer f last k (bytes_from bytes.now o) }
 {
     if word_32(bytes, o, 508) != check_of(bytes, o) {
-        return Answer::BadCheck;
+        return Err(Refusal::BadCheck);
     }
     if word_32(bytes, o, 0) as usize != k {
-        return Answer::OutOfTurn;
+        return Err(Refusal::OutOfTurn);
     }
     if !tests::is_used(f, last, k, used) {
-        return Answer::BadUsed;
+        return Err(Refusal::BadUsed);
     }
     if !is_zero(f, bytes, o, used) {
-        return Answer::NotZero;
+        return Err(Refusal::NotZero);
     }
-    Answer::Done
+    Ok(())
 }
 
 // What the tests answer, and how many rows there are where they answer done.

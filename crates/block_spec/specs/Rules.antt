@@ -4,7 +4,7 @@ use Rattle.std.specs.Prelude.{Bool, not, ◌&&◌, ◌||◌, List, [], ◌∷◌
 use Rattle.numbers.specs.Limits.{least_side, most_side}
 use Rattle.numbers.specs.Size.{is_size}
 use Rattle.numbers.specs.Depth.{is_depth, most}
-use Rattle.numbers.specs.declared.answer.Answer.TheVariants.{BadSize, BadDepth, OutsidePlane, NoNeighbour, BadBase}
+use Rattle.numbers.specs.declared.answer.Refusal.TheVariants.{BadSize, BadDepth, OutsidePlane, NoNeighbour, BadBase}
 use Rattle.refusals.specs.Ladder.{Rule, ◌else◌}
 use Rattle.block_spec.specs.declared.spec.IntraRefSpec.{IntraRefSpec}
 

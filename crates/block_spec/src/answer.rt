@@ -6,9 +6,9 @@ ghost use Rattle.block_spec.specs.Rules.{size_rules, place_rules};
 
 use crate::rules;
 use crate::spec::IntraRefSpec;
-use numbers::answer::Answer;
-use numbers::depth::{Depth, FoundDepth};
-use numbers::size::{FoundSize, Size};
+use numbers::answer::{Answer, Refusal};
+use numbers::depth::Depth;
+use numbers::size::Size;
 
 // M of the depth whose D is d.
 pub fn max_of(d: u16) -> i32
@@ -25,13 +25,9 @@ pub fn max_of(d: u16) -> i32
 pub fn size_answer(s: IntraRefSpec) -> Answer
     ensures { result ≡ ladder (size_rules s) }
 {
-    let FoundSize::Is(_) = Size::of(s.b) else {
-        return Answer::BadSize;
-    };
-    let FoundDepth::Is(_) = Depth::of(s.d) else {
-        return Answer::BadDepth;
-    };
-    Answer::Done
+    Size::try_from(s.b)?;
+    Depth::try_from(s.d)?;
+    Ok(())
 }
 
 // 4, 5 and 6, in a plane of w by h samples.
@@ -40,13 +36,13 @@ pub fn place_answer(w: usize, h: usize, s: IntraRefSpec) -> Answer
     ensures { result ≡ ladder (place_rules w h s) }
 {
     if !rules::is_inside(w, h, s) {
-        return Answer::OutsidePlane;
+        return Err(Refusal::OutsidePlane);
     }
     if !rules::has_neighbours(w, h, s) {
-        return Answer::NoNeighbour;
+        return Err(Refusal::NoNeighbour);
     }
     if !rules::is_base(s, max_of(s.d)) {
-        return Answer::BadBase;
+        return Err(Refusal::BadBase);
     }
-    Answer::Done
+    Ok(())
 }

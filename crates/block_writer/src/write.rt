@@ -10,7 +10,7 @@ ghost use Rattle.block_writer.specs.Made.{WholeRows};
 use crate::make;
 use block_image::format::Format;
 use block_words::room::has_room;
-use numbers::answer::Answer;
+use numbers::answer::{Answer, Refusal};
 use numbers::plan::Plan;
 
 // Block k of the plan.
@@ -65,12 +65,12 @@ fn write_answer(f: Format, plan: &[u16], room: usize, slots: usize) -> Answer
     ensures { result ≡ write_answer f plan.now room slots }
 {
     if !is_rows(f, plan) {
-        return Answer::BadPlan;
+        return Err(Refusal::BadPlan);
     }
     if !has_room(image_size(f, plan.len() / f.words), room, slots) {
-        return Answer::NoRoom;
+        return Err(Refusal::NoRoom);
     }
-    Answer::Done
+    Ok(())
 }
 
 // Done, with the plan's image at the start of `out` and the count of its bytes in `length`; or a refusal, with nothing written.
@@ -78,10 +78,7 @@ pub fn write_blocks(f: Format, plan: &[u16], out: &mut [u8], length: &mut [usize
     requires { Fits f }
     ensures { WritePlan f plan.now (outputs out.old length.old) (outputs out.new length.new) result }
 {
-    let answer = write_answer(f, plan, out.len(), length.len());
-    if !answer.is_done() {
-        return answer;
-    }
+    write_answer(f, plan, out.len(), length.len())?;
     let n = plan.len() / f.words;
     let size = image_size(f, n);
     all_blocks(f, plan, n, size / 512, out);

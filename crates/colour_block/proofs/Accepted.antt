@@ -5,17 +5,17 @@ use Prim.Native.Nat.{ℕ}
 use lib.IntN.{ℤ}
 use lib.ListN.{length}
 use borrow.Author.Tests.{leb-true}
-use Rattle.numbers.specs.declared.answer.Answer.TheVariants.{Done}
 use Rattle.refusals.proofs.Ladder.{all-kept}
 use Rattle.colour_rules.specs.Rules.{predict_rules, predict_answer}
 use Rattle.colour_rules.specs.declared.block.Block.{Block}
 use Rattle.colour_rules.proofs.Granted.{placed}
 use Rattle.colour_block.specs.Accepted.{BlockAccepted}
+use Rattle.numbers.specs.Answer.{done}
 
-pub accepted : (luma : List ℤ) (b : Block) (n : ℕ) → predict_answer luma b n ≡ Done → BlockAccepted luma b n
+pub accepted : (luma : List ℤ) (b : Block) (n : ℕ) → predict_answer luma b n ≡ done → BlockAccepted luma b n
 unfolding predict_answer
 accepted luma b n e =
-    let all = all-kept (predict_rules luma b n) tt e in
+    let all = all-kept (predict_rules luma b n) e in
     record {
       depth = all.0;
       colour = all.1.0;

@@ -39,10 +39,7 @@ pub fn predict_block(
         direction: direction,
         d: d,
     };
-    let answer = colour_rules::refused(luma, b, out.len());
-    if !answer.is_done() {
-        return answer;
-    }
+    colour_rules::refused(luma, b, out.len())?;
     block::predict_into(luma, b, p0, p1, p2, out);
     answer
 }

@@ -6,10 +6,9 @@ use Prim.Native.Nat.{ℕ}
 use lib.IntN.{ℤ}
 use lib.Ieee.{Float}
 use lib.ListN.{length}
-use Rattle.numbers.specs.Answer.{is_done}
+use Rattle.numbers.specs.Answer.{is_done, done, Answer}
 use Rattle.numbers.specs.Colour.{the_colour}
-use Rattle.numbers.specs.declared.answer.Answer.{Answer}
-use Rattle.numbers.specs.declared.answer.Answer.TheVariants.{Done, BadSample, SumTooLarge}
+use Rattle.numbers.specs.declared.answer.Refusal.TheVariants.{BadSample, SumTooLarge}
 use Rattle.signed.proofs.Range.{and_both}
 use Rattle.lists.specs.Block.{sample}
 use Rattle.refusals.specs.Promise.{Promise}

@@ -9,7 +9,7 @@ use lib.Ieee.{Float, nan}
 use lib.ListN.{get_or}
 use Rattle.numbers.specs.Colour.{the_colour}
 use Rattle.numbers.specs.Depth.{most}
-use Rattle.numbers.specs.declared.answer.Answer.TheVariants.{BadSample, SumTooLarge}
+use Rattle.numbers.specs.declared.answer.Refusal.TheVariants.{BadSample, SumTooLarge}
 use Rattle.refusals.specs.Ladder.{◌else◌, ladder}
 use Rattle.samples.specs.Sample.{is_sample, reading}
 use Rattle.edge_line.proofs.Every.{every-same}

@@ -5,10 +5,9 @@ use mathlib.Core.Bool.{Bool, true, cond}
 use mathlib.Core.List.{[], ◌∷◌}
 use Prim.Native.Nat.{ℕ}
 use lib.IntN.{ℤ}
-use Rattle.numbers.specs.Answer.{is_done}
+use Rattle.numbers.specs.Answer.{is_done, done, Answer}
 use Rattle.numbers.specs.Depth.{most}
-use Rattle.numbers.specs.declared.answer.Answer.{Answer}
-use Rattle.numbers.specs.declared.answer.Answer.TheVariants.{Done, BadColourSample, SumTooLarge}
+use Rattle.numbers.specs.declared.answer.Refusal.TheVariants.{BadColourSample, SumTooLarge}
 use Rattle.numbers.specs.declared.colour.ColourDirection.{ColourDirection}
 use Rattle.refusals.specs.Ladder.{◌else◌, ladder}
 use Rattle.colour_samples.specs.declared.nine.Nine.{Nine}
@@ -28,7 +27,7 @@ module _ (w : Window) (direction : ColourDirection) (D : ℕ) where
   -- what a window gives, by its test and its sums
   abbrev given : Bool → Nine → Derived
   given ok s =
-      let a : Answer = cond ok (cond (is_small s) Done SumTooLarge) BadColourSample in
+      let a : Answer = cond ok (cond (is_small s) done SumTooLarge) BadColourSample in
       record { answer = a; params = cond (is_done a) (params_of D (count_of w) s) zeros }
 
   pub sampled-same : (luma luma' chroma chroma' : ℕ → ℕ → ℤ) → is_readable (most D) direction luma chroma w
@@ -42,7 +41,7 @@ module _ (w : Window) (direction : ColourDirection) (D : ℕ) where
   pub readable-answer : (luma chroma : ℕ → ℕ → ℤ) → is_readable (most D) direction luma chroma w ≡ true
       → (sampled luma chroma w direction D).answer ≡ ladder (is_small (sums_of D direction luma chroma w) else SumTooLarge ∷ [])
   unfolding sampled
-  readable-answer luma chroma e = ap (λ t. cond t (cond (is_small (sums_of D direction luma chroma w)) Done SumTooLarge) BadColourSample) e
+  readable-answer luma chroma e = ap (λ t. cond t (cond (is_small (sums_of D direction luma chroma w)) done SumTooLarge) BadColourSample) e
 
   -- and a window that is done has its parameters
   pub sampled-params : (luma chroma : ℕ → ℕ → ℤ) → is_done (sampled luma chroma w direction D).answer ≡ true

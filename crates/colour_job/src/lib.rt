@@ -23,8 +23,8 @@ use colour_params::Derived;
 use colour_windows::{chroma, luma};
 use colour_words::ColourWords;
 use elimination::Params;
-use numbers::answer::Answer;
-use numbers::depth::{Depth, FoundDepth};
+use numbers::answer::{Answer, Refusal};
+use numbers::depth::Depth;
 use plane_windows::patch::Patch;
 use plane_windows::write;
 
@@ -109,13 +109,10 @@ pub fn do_colour(
 {
     let depth = depth_of(c.d);
     if !all_read(luma, chroma, width, c, depth.max()) {
-        return Answer::BadSample;
+        return Err(Refusal::BadSample);
     }
     let r = derive(luma, chroma, width, c, depth, luma_window, chroma_window);
-    let answer = r.answer;
-    if !answer.is_done() {
-        return answer;
-    }
+    r.answer?;
     let p = r.params;
     write_block(chroma, width, c, p, luma_window, out);
     answer

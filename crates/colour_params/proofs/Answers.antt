@@ -6,11 +6,10 @@ use Prim.Native.Nat.{ℕ, ◌≤◌}
 use native.Mathlib.Omega.{arith}
 use lib.IntN.{ℤ}
 use lib.ListN.{length, set}
-use Rattle.numbers.specs.Answer.{is_done}
+use Rattle.numbers.specs.Answer.{is_done, done, Answer}
 use Rattle.numbers.specs.Colour.{the_colour}
 use Rattle.numbers.specs.Depth.{is_depth}
-use Rattle.numbers.specs.declared.answer.Answer.{Answer}
-use Rattle.numbers.specs.declared.answer.Answer.TheVariants.{Done, BadDepth}
+use Rattle.numbers.specs.declared.answer.Refusal.TheVariants.{BadDepth}
 use Rattle.signed.proofs.Range.{and_both}
 use Rattle.refusals.specs.Ladder.{Rule, ladder}
 use Rattle.refusals.proofs.Ladder.{all-kept, segment-kept, segment-broken}
@@ -36,13 +35,13 @@ module _ (luma chroma : List ℤ) (w : Window) (direction D : ℕ) (room : Bool)
   rules = window_rules (length luma) (length chroma) w direction room
 
   -- a window that passes 10, 11, 12 and 9
-  pub passed : ladder rules ≡ Done → Laid w luma chroma
-  passed e = laid w luma chroma (all-kept rules tt e).1.0
+  pub passed : ladder rules ≡ done → Laid w luma chroma
+  passed e = laid w luma chroma (all-kept rules e).1.0
 
   -- one that is accepted has room for its parameters
-  pub room-kept : derive_answer luma chroma w direction D room ≡ Done → room ≡ true
+  pub room-kept : derive_answer luma chroma w direction D room ≡ done → room ≡ true
   unfolding derive_answer
-  room-kept e = (all-kept (derive_rules luma chroma w direction D room) tt e).1.1.1.1.0
+  room-kept e = (all-kept (derive_rules luma chroma w direction D room) e).1.1.1.1.0
 
   -- the answer
   pub answer-depth : is_depth D ≡ false → derive_answer luma chroma w direction D room ≡ BadDepth
@@ -51,12 +50,12 @@ module _ (luma chroma : List ℤ) (w : Window) (direction D : ℕ) (room : Bool)
 
   pub answer-window : is_depth D ≡ true → is_done (ladder rules) ≡ false → derive_answer luma chroma w direction D room ≡ ladder rules
   unfolding derive_answer
-  answer-window e n = simp e (sym (segment-broken rules (sample_rules (entry luma) (entry chroma) w (the_colour direction) D) tt n refl))
+  answer-window e n = simp e (sym (segment-broken rules (sample_rules (entry luma) (entry chroma) w (the_colour direction) D) n refl))
 
-  pub answer-samples : is_depth D ≡ true → ladder rules ≡ Done
+  pub answer-samples : is_depth D ≡ true → ladder rules ≡ done
       → derive_answer luma chroma w direction D room ≡ ladder (sample_rules (entry luma) (entry chroma) w (the_colour direction) D)
   unfolding derive_answer is_done
-  answer-samples e n = simp e (segment-kept rules (sample_rules (entry luma) (entry chroma) w (the_colour direction) D) tt (ap is_done n) refl)
+  answer-samples e n = simp e (segment-kept rules (sample_rules (entry luma) (entry chroma) w (the_colour direction) D) (ap is_done n) refl)
 
   -- what is returned
   pub derived-refused : (a : Answer) → derive_answer luma chroma w direction D room ≡ a → is_done a ≡ false

@@ -1,8 +1,7 @@
 -- What `derive_params` gives: "where three parameters would be returned they are zeros" when it refuses (document 01, Refusal numbers).
 use Rattle.std.specs.Prelude.{Bool, cond, List, ◌∷◌, ℕ, leb, ℤ, pos, length, drop}
-use Rattle.numbers.specs.Answer.{is_done}
+use Rattle.numbers.specs.Answer.{is_done, Answer}
 use Rattle.numbers.specs.Colour.{the_colour}
-use Rattle.numbers.specs.declared.answer.Answer.{Answer}
 use Rattle.numbers.specs.declared.colour.ColourDirection.{ColourDirection}
 use Rattle.refusals.specs.Ladder.{ladder}
 use Rattle.refusals.specs.Promise.{lent, Promise}

@@ -17,7 +17,7 @@ use colour_sums::window::{Gathered, Window};
 use elimination::Params;
 use numbers::answer::Answer;
 use numbers::colour::ColourDirection;
-use numbers::depth::{Depth, FoundDepth};
+use numbers::depth::Depth;
 
 // An answer, and the parameters: zeros where it refuses.
 #[derive(Clone, Copy)]
@@ -116,10 +116,7 @@ pub fn derive_into(
     ensures { Written luma.now chroma.now w direction d params.old params.new result }
 {
     let r = derive(luma, chroma, w, direction, d, 3 <= params.len());
-    let answer = r.answer;
-    if !answer.is_done() {
-        return answer;
-    }
+    r.answer?;
     let p = r.params;
     let x0 = p.x0;
     let x1 = p.x1;

@@ -6,8 +6,8 @@ ghost use Rattle.colour_params.specs.Rules.{are_references, window_rules};
 use colour_sums::window::Window;
 use colour_terms::reference;
 use colour_terms::reference::Reference;
-use numbers::answer::Answer;
-use numbers::colour::{ColourDirection, FoundColour};
+use numbers::answer::{Answer, Refusal};
+use numbers::colour::ColourDirection;
 
 // 11: whether the window's sizes are in range and luma's list and chroma's, of so many entries, hold its rows.
 fn are_references(w: Window, luma: usize, chroma: usize) -> bool
@@ -31,16 +31,16 @@ pub fn answer_of(w: Window, luma: usize, chroma: usize, direction: u32, room: bo
     ensures { result ≡ ladder (window_rules luma chroma w direction room) }
 {
     let FoundColour::Is(_) = ColourDirection::of(direction) else {
-        return Answer::BadColourDirection;
+        return Err(Refusal::BadColourDirection);
     };
     if !are_references(w, luma, chroma) {
-        return Answer::BadReference;
+        return Err(Refusal::BadReference);
     }
     if !reference::is_lines(w.above_lines, w.left_lines) {
-        return Answer::BadLines;
+        return Err(Refusal::BadLines);
     }
     if !room {
-        return Answer::ShortList;
+        return Err(Refusal::ShortList);
     }
-    Answer::Done
+    Ok(())
 }

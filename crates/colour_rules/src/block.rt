@@ -2,7 +2,7 @@
 ghost use Rattle.std.specs.Prelude.{◌≡◌, true};
 ghost use Rattle.numbers.specs.Colour.{the_colour, is_colour};
 
-use numbers::colour::{ColourDirection, FoundColour};
+use numbers::colour::ColourDirection;
 
 // The sizes of its window, the block's own, and the rest of its call.
 #[derive(Clone, Copy)]

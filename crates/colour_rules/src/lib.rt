@@ -10,7 +10,7 @@ ghost use Rattle.colour_rules.specs.Rules.{predict_answer};
 
 use crate::block::Block;
 use colour_terms::reference;
-use numbers::answer::Answer;
+use numbers::answer::{Answer, Refusal};
 use numbers::depth::FoundDepth;
 
 // What a call answers, whose output has n entries.
@@ -18,28 +18,28 @@ pub fn refused(luma: &[i32], b: Block, n: usize) -> Answer
     ensures { result ≡ predict_answer luma.now b n }
 {
     let FoundDepth::Is(depth) = colour_terms::depth_of(b.d) else {
-        return Answer::BadDepth;
+        return Err(Refusal::BadDepth);
     };
     if !b.has_colour() {
-        return Answer::BadColourDirection;
+        return Err(Refusal::BadColourDirection);
     }
     if !reference::is_reference(b.ref_width, b.ref_height, luma.len()) {
-        return Answer::BadReference;
+        return Err(Refusal::BadReference);
     }
     if !reference::is_lines(b.above_lines, b.left_lines) {
-        return Answer::BadLines;
+        return Err(Refusal::BadLines);
     }
     if !place::is_placed(b) {
-        return Answer::BadLines;
+        return Err(Refusal::BadLines);
     }
     if !place::has_neighbours(b) {
-        return Answer::BadLines;
+        return Err(Refusal::BadLines);
     }
     if n < b.width * b.height {
-        return Answer::ShortList;
+        return Err(Refusal::ShortList);
     }
     if !range::luma_in_range(luma, b, depth.max()) {
-        return Answer::BadColourSample;
+        return Err(Refusal::BadColourSample);
     }
-    Answer::Done
+    Ok(())
 }

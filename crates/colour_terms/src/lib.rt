@@ -8,7 +8,7 @@ ghost use Rattle.numbers.specs.Depth.{bits_of, depth_of};
 ghost use Rattle.signed.specs.Range.{inside};
 ghost use Rattle.colour_terms.specs.Terms.{eighth, middle, squared};
 
-use numbers::depth::{Depth, FoundDepth};
+use numbers::depth::Depth;
 
 // The depth whose D is d.
 pub fn depth_of(d: u32) -> FoundDepth

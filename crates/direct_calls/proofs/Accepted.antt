@@ -11,11 +11,11 @@ use borrow.Author.Tests.{leb-true}
 use Rattle.numbers.specs.Size.{is_size}
 use Rattle.numbers.specs.Depth.{is_depth, most}
 use Rattle.numbers.proofs.Agree.{size-all, depth-all}
-use Rattle.numbers.specs.declared.answer.Answer.TheVariants.{Done}
 use Rattle.signed.specs.Range.{inside, all_inside, Edge}
 use Rattle.signed.proofs.Range.{and_both, all-inside-at}
 use Rattle.refusals.proofs.Ladder.{all-kept}
 use Rattle.direct_calls.specs.Direct.{lists_long, entries_in_range, direct_rules, direct_answer}
+use Rattle.numbers.specs.Answer.{done}
 
 pub size-most : (B : ℕ) → is_size B ≡ true → B ≤ 64
 size-most B e = size-all (λ x. x ≤ 64) B (omega arith) e
@@ -41,11 +41,11 @@ pub record Accepted (B D : ℕ) (named : Bool) (above left : List ℤ) (k : ℤ)
   pub left_in : Edge (most D) (2 * B) left
   pub corner-in : inside (pos (most D)) k ≡ true
 
-pub accepted : (B D : ℕ) (named : Bool) (above left : List ℤ) (k : ℤ) (n : ℕ) → direct_answer B D named above left k n ≡ Done
+pub accepted : (B D : ℕ) (named : Bool) (above left : List ℤ) (k : ℤ) (n : ℕ) → direct_answer B D named above left k n ≡ done
     → Accepted B D named above left k n
 unfolding direct_answer entries_in_range
 accepted B D named above left k n e =
-    let all = all-kept (direct_rules B D named above left k n) tt e in
+    let all = all-kept (direct_rules B D named above left k n) e in
     let lo = long-all B (length above) (length left) n all.1.1.1.0 in
     let M = pos (most D) in
     let p = and_both (all_inside M above (2 * B) && all_inside M left (2 * B)) (inside M k) all.1.1.1.1.0 in

@@ -4,8 +4,7 @@ use mathlib.Core.Bool.{Bool, true}
 use mathlib.Core.List.{List}
 use Prim.Native.Nat.{ℕ}
 use lib.IntN.{ℤ}
-use Rattle.numbers.specs.Answer.{is_done}
-use Rattle.numbers.specs.declared.answer.Answer.{Answer}
+use Rattle.numbers.specs.Answer.{is_done, Answer}
 use Rattle.numbers.proofs.Named.{done-is}
 use Rattle.direct_calls.specs.Direct.{direct_answer}
 use Rattle.direct_calls.specs.Given.{Given}

@@ -2,12 +2,12 @@
 use Rattle.std.specs.Prelude.{ℕ, ◌*◌, Bool, true, ◌&&◌, List, [], ◌∷◌, leb, ℤ, pos, Float, length}
 use Rattle.numbers.specs.Size.{is_size}
 use Rattle.numbers.specs.Depth.{is_depth, most}
-use Rattle.numbers.specs.declared.answer.Answer.{Answer}
-use Rattle.numbers.specs.declared.answer.Answer.TheVariants.{BadSize, BadDepth, BadMode, ShortList, BadSample}
+use Rattle.numbers.specs.declared.answer.Refusal.TheVariants.{BadSize, BadDepth, BadMode, ShortList, BadSample}
 use Rattle.signed.specs.Range.{inside, all_inside}
 use Rattle.lists.specs.Block.{block}
 use Rattle.refusals.specs.Ladder.{Rule, ◌else◌, ladder}
 use Rattle.refusals.specs.Promise.{lent, Promise}
+use Rattle.numbers.specs.Answer.{Answer}
 
 -- "an edge list under 2B entries, an output under B x B"
 unfoldable pub lists_long : ℕ → ℕ → ℕ → ℕ → Bool

@@ -4,9 +4,9 @@ ghost use Rattle.std.specs.Prelude.{◌≡◌, ◌≤◌, ◌*◌, length};
 ghost use Rattle.direct_calls.specs.Direct.{lists_long, entries_in_range, direct_answer};
 
 use crate::range;
-use numbers::answer::Answer;
-use numbers::depth::{Depth, FoundDepth};
-use numbers::size::{FoundSize, Size};
+use numbers::answer::{Answer, Refusal};
+use numbers::depth::Depth;
+use numbers::size::Size;
 
 // Whether edges of a and l entries and an output of n are long enough for a block of bs x bs.
 fn lists_long(bs: usize, a: usize, l: usize, n: usize) -> bool
@@ -45,21 +45,17 @@ pub fn direct(
 ) -> Answer
     ensures { result ≡ direct_answer b d named above.now left.now corner n }
 {
-    let FoundSize::Is(_) = Size::of(b) else {
-        return Answer::BadSize;
-    };
-    let FoundDepth::Is(depth) = Depth::of(d) else {
-        return Answer::BadDepth;
-    };
+    Size::try_from(b)?;
+    let depth = Depth::try_from(d)?;
     if !named {
-        return Answer::BadMode;
+        return Err(Refusal::BadMode);
     }
     let bs = b as usize;
     if !lists_long(bs, above.len(), left.len(), n) {
-        return Answer::ShortList;
+        return Err(Refusal::ShortList);
     }
     if !entries_in_range(bs, depth.max(), above, left, corner) {
-        return Answer::BadSample;
+        return Err(Refusal::BadSample);
     }
-    Answer::Done
+    Ok(())
 }

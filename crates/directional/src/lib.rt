@@ -29,10 +29,7 @@ pub fn directional(
     ensures { PredictedBy (is_named direction delta flags) (directed d direction delta flags wide high) b d above.now left.now corner out.old out.new result }
 {
     let named = words::is_named(direction, delta, flags);
-    let answer = direct_calls::direct::direct(b, d, named, above, left, corner, out.len());
-    if !answer.is_done() {
-        return answer;
-    }
+    direct_calls::direct::direct(b, d, named, above, left, corner, out.len())?;
     words::directed_into(
         b, d, direction, delta, flags, wide, high, above, left, corner, out,
     );

@@ -7,7 +7,7 @@ ghost use Rattle.direct_calls.specs.Given.{Given};
 ghost use Rattle.directional.specs.Words.{limit_of, setting_of, turned_by};
 
 use crate::choice;
-use numbers::depth::{Depth, FoundDepth};
+use numbers::depth::Depth;
 use row_words::dir::Dir;
 use row_words::flag::Flags;
 use setting::Setting;

@@ -6,7 +6,7 @@ ghost use Rattle.direct_calls.specs.Given.{Given};
 ghost use Rattle.directional.specs.Words.{is_named, directed};
 
 use crate::turned;
-use row_words::dir::{Dir, FoundDir};
+use row_words::dir::Dir;
 use row_words::flag::Flags;
 
 // Refusal 3: whether the words name a direction.

@@ -1,12 +1,12 @@
 -- What the corner's output holds, and what `build_refs` promises of all three.
 use Rattle.std.specs.Prelude.{List, ℕ, ℤ, Float, length}
-use Rattle.numbers.specs.declared.answer.Answer.{Answer}
 use Rattle.lists.specs.Fill.{filled}
 use Rattle.refusals.specs.Promise.{lent, Promise}
 use Rattle.block_spec.specs.declared.spec.IntraRefSpec.{IntraRefSpec}
 use Rattle.block_spec.specs.Behind.{corner_behind}
 use Rattle.sides.specs.Values.{value_of, above_of, left_of}
 use Rattle.edges.specs.Rules.{refs_answer}
+use Rattle.numbers.specs.Answer.{Answer}
 
 abbrev pub corner_of : List Float → ℕ → IntraRefSpec → List ℤ → List ℤ
 corner_of plane W s before = filled 1 (λ i. value_of W plane (corner_behind s)) before

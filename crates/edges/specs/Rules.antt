@@ -1,12 +1,12 @@
 -- "`build_refs` tests 20, 1, 2, 4, 5, 6, 9, 8".
 use Rattle.std.specs.Prelude.{Bool, ◌&&◌, List, ◌∷◌, ◌++◌, ℕ, leb, Float, length}
 use Rattle.numbers.specs.Limits.{ref_cap}
-use Rattle.numbers.specs.declared.answer.Answer.{Answer}
-use Rattle.numbers.specs.declared.answer.Answer.TheVariants.{BadPlane, ShortList}
+use Rattle.numbers.specs.declared.answer.Refusal.TheVariants.{BadPlane, ShortList}
 use Rattle.refusals.specs.Ladder.{Rule, ◌else◌, ladder}
 use Rattle.block_spec.specs.declared.spec.IntraRefSpec.{IntraRefSpec}
 use Rattle.block_spec.specs.Rules.{is_plane, size_rules, place_rules}
 use Rattle.sides.specs.Read.{read_rules}
+use Rattle.numbers.specs.Answer.{Answer}
 
 -- "an edge output under 128"; the corner's output has one entry
 unfoldable pub outputs_long : ℕ → ℕ → ℕ → Bool

@@ -5,7 +5,7 @@ ghost use Rattle.edges.specs.Rules.{outputs_long, refs_answer};
 use block_spec::spec::IntraRefSpec;
 use block_spec::{answer, rules};
 use neighbours::reads;
-use numbers::answer::Answer;
+use numbers::answer::{Answer, Refusal};
 use numbers::size::Size;
 
 // How many entries the outputs of a call have.
@@ -34,21 +34,15 @@ pub fn refused(plane: &[f32], width: usize, height: usize, s: IntraRefSpec, n: L
     ensures { result ≡ refs_answer plane.now width height s n.above n.left n.corner }
 {
     if !rules::is_plane(width, height, plane.len()) {
-        return Answer::BadPlane;
+        return Err(Refusal::BadPlane);
     }
-    let sizes = answer::size_answer(s);
-    if !sizes.is_done() {
-        return sizes;
-    }
-    let places = answer::place_answer(width, height, s);
-    if !places.is_done() {
-        return places;
-    }
+    answer::size_answer(s)?;
+    answer::place_answer(width, height, s)?;
     if !outputs_long(n) {
-        return Answer::ShortList;
+        return Err(Refusal::ShortList);
     }
     if !reads::all_read(plane, width, s, answer::max_of(s.d)) {
-        return Answer::BadSample;
+        return Err(Refusal::BadSample);
     }
-    Answer::Done
+    Ok(())
 }

@@ -28,10 +28,7 @@ pub fn build_refs(
         left: left.len(),
         corner: corner.len(),
     };
-    let answer = answer::refused(plane, width, height, s, n);
-    if !answer.is_done() {
-        return answer;
-    }
+    answer::refused(plane, width, height, s, n)?;
     corner[0] = fill::fill_edges(plane, width, s, above, left);
     answer
 }

@@ -3,9 +3,7 @@ use mathlib.Core.Path.{◌≡◌, refl, sym, ◌∙◌, ap}
 use mathlib.Core.Bool.{Bool, true, false, cond}
 use Prim.Native.Nat.{ℕ}
 use native.Mathlib.Omega.{arith}
-use Rattle.numbers.specs.Answer.{is_done}
-use Rattle.numbers.specs.declared.answer.Answer.{Answer}
-use Rattle.numbers.specs.declared.answer.Answer.TheVariants.{Done}
+use Rattle.numbers.specs.Answer.{is_done, done, Answer}
 use Rattle.numbers.proofs.Named.{done-is}
 use Rattle.job.specs.Row.{Row}
 use Rattle.job.specs.Rules.{row_answer, stands}
@@ -19,7 +17,7 @@ module _ (W H n : ℕ) (row : Row) where
   unfolding stands
   reads-no a e d = ap Refused e ∙ sym (ap (λ t. cond t (Is (job_of row)) (Refused (row_answer W H n row))) (ap is_done (sym e) ∙ d))
 
-  pub reads-yes : Done ≡ row_answer W H n row → (job : Job) → job ≡ job_of row → Is job ≡ read_row W H n row
+  pub reads-yes : done ≡ row_answer W H n row → (job : Job) → job ≡ job_of row → Is job ≡ read_row W H n row
   unfolding stands is_done
   reads-yes e job j = ap Is j ∙ sym (ap (λ a. cond (is_done a) (Is (job_of row)) (Refused (row_answer W H n row))) (sym e))
 
@@ -27,11 +25,11 @@ module _ (W H n : ℕ) (row : Row) where
   by-stands : (b : Bool) (f : FoundJob) → stands W H n row ≡ b → read_row W H n row ≡ f → cond b (Is (job_of row)) (Refused (row_answer W H n row)) ≡ f
   by-stands b f e r = sym (ap (λ t. cond t (Is (job_of row)) (Refused (row_answer W H n row))) e) ∙ r
 
-  pub answer-yes : (job : Job) → read_row W H n row ≡ Is job → Done ≡ row_answer W H n row
+  pub answer-yes : (job : Job) → read_row W H n row ≡ Is job → done ≡ row_answer W H n row
   unfolding stands
   answer-yes job r = go (stands W H n row) refl
     where
-      go : (b : Bool) → stands W H n row ≡ b → Done ≡ row_answer W H n row
+      go : (b : Bool) → stands W H n row ≡ b → done ≡ row_answer W H n row
       go true e = sym (done-is (row_answer W H n row) e)
       go false e = let q = by-stands false (Is job) e r in let z : ◌≡◌ {A = ℕ} 0 1 = cc in absurd (omega arith)
 

@@ -5,7 +5,7 @@ use mathlib.Core.List.{List, [], ◌∷◌, ◌++◌}
 use Prim.Native.Nat.{ℕ}
 use lib.Ieee.{Float}
 use Rattle.numbers.specs.Answer.{is_done}
-use Rattle.numbers.specs.declared.answer.Answer.TheVariants.{BadMode, NoDifferences}
+use Rattle.numbers.specs.declared.answer.Refusal.TheVariants.{BadMode, NoDifferences}
 use Rattle.refusals.specs.Ladder.{◌else◌, ladder}
 use Rattle.refusals.proofs.Ladder.{all_of, kept_append, ladder-append}
 use Rattle.block_spec.specs.Rules.{size_rules, place_rules}
@@ -22,7 +22,7 @@ module _ (W H n : ℕ) (row : Row) where
   unfolding stands row_answer
   row_kept e =
       let last = has_differences n row else NoDifferences ∷ [] in
-      let sizes = kept_append (size_rules (spec_of row)) (is_mode row else BadMode ∷ (place_rules W H (spec_of row) ++ last)) (all_of (row_rules W H n row) tt e) in
+      let sizes = kept_append (size_rules (spec_of row)) (is_mode row else BadMode ∷ (place_rules W H (spec_of row) ++ last)) (all_of (row_rules W H n row) e) in
       let places = kept_append (place_rules W H (spec_of row)) last sizes.1.1 in
       (edges.standing W H (spec_of row) sizes.0 places.0, places.1.0)
 
@@ -33,7 +33,7 @@ module _ (W H n : ℕ) (row : Row) where
     -- 1 to 7, and then 8
     pub answer-then : job_answer W H n row plane ≡ cond (stands W H n row) (ladder (read_rules plane W (spec_of row))) (row_answer W H n row)
     unfolding job_answer stands row_answer
-    answer-then = ladder-append (row_rules W H n row) (read_rules plane W (spec_of row)) tt
+    answer-then = ladder-append (row_rules W H n row) (read_rules plane W (spec_of row))
 
     -- by whether the job stands
     pub answer-by : (b : Bool) → stands W H n row ≡ b → job_answer W H n row plane ≡ cond b (ladder (read_rules plane W (spec_of row))) (row_answer W H n row)

@@ -1,9 +1,8 @@
 -- "then each job 1 to 7 and 8" (document 01, Refusal numbers, in order of checking).
 use Rattle.std.specs.Prelude.{Bool, List, [], ◌∷◌, ◌++◌, ℕ, ◌+◌, ◌*◌, leb, Float}
-use Rattle.numbers.specs.Answer.{is_done}
+use Rattle.numbers.specs.Answer.{is_done, Answer}
 use Rattle.row_words.specs.declared.word.Word.TheVariants.{Side}
-use Rattle.numbers.specs.declared.answer.Answer.{Answer}
-use Rattle.numbers.specs.declared.answer.Answer.TheVariants.{BadMode, NoDifferences}
+use Rattle.numbers.specs.declared.answer.Refusal.TheVariants.{BadMode, NoDifferences}
 use Rattle.refusals.specs.Ladder.{Rule, ◌else◌, ladder}
 use Rattle.block_spec.specs.Rules.{size_rules, place_rules}
 use Rattle.sides.specs.Read.{read_rules}

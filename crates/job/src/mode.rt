@@ -4,7 +4,7 @@ ghost use Rattle.job.specs.Mode.{row_mode};
 
 use crate::row;
 use row_words::flag::Flags;
-use row_words::mode::{FoundMode, Mode};
+use row_words::mode::Mode;
 use row_words::word::Word;
 
 // The row's mode, where it names one and no flag bit is stray.

@@ -7,9 +7,9 @@ use crate::job::{FoundJob, Job};
 use crate::{mode, row};
 use block_spec::answer;
 use block_spec::spec::IntraRefSpec;
-use numbers::answer::Answer;
+use numbers::answer::{Answer, Refusal};
 use row_words::flag::Flags;
-use row_words::mode::{FoundMode, Mode};
+use row_words::mode::Mode;
 use row_words::word::Word;
 
 // The job of a row, whose spec and mode are read.
@@ -56,7 +56,7 @@ pub fn row_answer(width: usize, height: usize, n: usize, row: &[u16]) -> Answer
     ensures { result ≡ row_answer width height n row.now }
 {
     match read_row(width, height, n, row) {
-        FoundJob::Is(_) => Answer::Done,
+        FoundJob::Is(_) => Ok(()),
         FoundJob::Refused(answer) => answer,
     }
 }

@@ -12,9 +12,8 @@ use lib.IntN.{ℤ}
 use lib.Ieee.{Float, nan}
 use lib.ListN.{length, get_or}
 use lib.Seq.{ext_get_or}
-use Rattle.numbers.specs.Answer.{answer_number, is_done}
+use Rattle.numbers.specs.Answer.{answer_number, is_done, Answer}
 use Rattle.numbers.proofs.Named.{done-number, number-done}
-use Rattle.numbers.specs.declared.answer.Answer.{Answer}
 use Rattle.reorder.specs.Jobs.{Laws, BlockLaws, Agree}
 use Rattle.reorder.specs.Rect.{In}
 use Rattle.reorder.proofs.Test.{decided}

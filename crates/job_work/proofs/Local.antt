@@ -11,7 +11,7 @@ use lib.ListN.{get_or}
 use borrow.Author.Tests.{ltb-true}
 use Rattle.numbers.specs.Depth.{most}
 use Rattle.row_words.specs.declared.word.Word.TheVariants.{Side, Bits}
-use Rattle.numbers.specs.declared.answer.Answer.TheVariants.{BadSample}
+use Rattle.numbers.specs.declared.answer.Refusal.TheVariants.{BadSample}
 use Rattle.lists.specs.Block.{sample}
 use Rattle.lists.proofs.Fill.{tab-same}
 use Rattle.refusals.specs.Ladder.{◌else◌, ladder}

@@ -7,8 +7,7 @@ use lib.IntN.{ℤ}
 use lib.Ieee.{Float}
 use lib.ListN.{length}
 use borrow.Author.Tests.{leb-true}
-use Rattle.numbers.specs.Answer.{is_done}
-use Rattle.numbers.specs.declared.answer.Answer.{Answer}
+use Rattle.numbers.specs.Answer.{is_done, Answer}
 use Rattle.refusals.specs.Promise.{lent, Promise}
 use Rattle.refusals.proofs.Promise.{refused}
 use Rattle.block_spec.specs.Rules.{is_plane}

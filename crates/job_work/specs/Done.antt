@@ -1,6 +1,5 @@
 -- One job of a run done: the plane afterwards.
 use Rattle.std.specs.Prelude.{List, ℕ, ℤ, Float, length}
-use Rattle.numbers.specs.declared.answer.Answer.{Answer}
 use Rattle.refusals.specs.Promise.{lent, Promise}
 use Rattle.job.specs.Row.{Row}
 use Rattle.job.specs.Rules.{job_answer}
@@ -8,6 +7,7 @@ use Rattle.job.specs.Job.{job_of}
 use Rattle.touches.specs.Touches.{block_of}
 use Rattle.paint.specs.Painted.{painted}
 use Rattle.job_work.specs.Written.{written_at}
+use Rattle.numbers.specs.Answer.{Answer}
 
 -- "it writes its block"; "a refused job writes nothing"
 unfoldable pub job_done : ℕ → ℕ → List ℤ → Row → List Float → List Float

@@ -1,7 +1,6 @@
 -- A job that none of the rules refuses.
 use Rattle.std.specs.Prelude.{◌≡◌, true, List, ℕ, ◌+◌, ◌*◌, ◌≤◌, ℤ, Float, length}
 use Rattle.row_words.specs.Mode.{DeltaInRange}
-use Rattle.numbers.specs.declared.answer.Answer.{Answer}
 use Rattle.refusals.specs.Ladder.{ladder}
 use Rattle.refusals.specs.Promise.{lent}
 use Rattle.sides.specs.Read.{all_read, read_rules}
@@ -10,6 +9,7 @@ use Rattle.touches.specs.Touches.{block_at}
 use Rattle.job.specs.declared.job.Job.{Job}
 use Rattle.job_work.specs.Written.{written_at}
 use Rattle.paint.specs.Painted.{painted}
+use Rattle.numbers.specs.Answer.{Answer}
 
 -- 1 to 7 do not refuse it, over a plane of W by H samples, `size` in all, with n differences
 pub record Tested (W n size : ℕ) (job : Job) : Type 0 where

@@ -15,7 +15,7 @@ ghost use Rattle.job_work.specs.Granted.{Tested, Granted, read_answer, read_done
 use block_spec::answer;
 use job::job::{FoundJob, Job};
 use neighbours::{fill, reads};
-use numbers::answer::Answer;
+use numbers::answer::{Answer, Refusal};
 
 // The predicted block, in out[..b * b], with room for the edges.
 fn block_into(
@@ -82,10 +82,10 @@ pub fn do_read(
     let s = job.spec;
     let m = answer::max_of(s.d);
     if !reads::all_read(plane, width, s, m) {
-        return Answer::BadSample;
+        return Err(Refusal::BadSample);
     }
     lent_job(plane, width, job, m, differences, above, left, out);
-    Answer::Done
+    Ok(())
 }
 
 // A job of a run: 1 to 7 and 8, and then its block. The edges and the predicted block have room in what is lent.

@@ -1,6 +1,6 @@
 // A case of a direct predictor call: its lists as long as the case says, its answer's number, and what the output holds afterwards.
 // A direction's line tells all of it. A plain mode's has b, d and the corner: its lists are as long as they must be, and it is done.
-use numbers::answer::Answer;
+use numbers::answer::{Answer, Refusal};
 use series::{fill, first, kind, room, same};
 use text::line;
 
@@ -77,7 +77,7 @@ fn plain(
         b'S' => smooth::smooth(b, d, above, left, corner, out),
         b'V' => smooth::smooth_v(b, d, above, left, corner, out),
         b'H' => smooth::smooth_h(b, d, above, left, corner, out),
-        _ => Answer::BadMode,
+        _ => Err(Refusal::BadMode),
     }
 }
 

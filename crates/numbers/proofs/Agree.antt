@@ -1,7 +1,7 @@
 -- The two ways agree: the case of a case's number is that case, and the number of the case that is found is the number that was looked for.
 -- Here for the enums that the code looks up. Assumes nothing.
 use mathlib.Core.Path.{◌≡◌, refl}
-use mathlib.Core.Bool.{true, false}
+use mathlib.Core.Bool.{true, false, cond}
 use Prim.Native.Nat.{ℕ}
 use Rattle.numbers.specs.Size.{side_of, sizes, size_of, is_size}
 use Rattle.numbers.specs.declared.size.Size.{Size}
@@ -9,9 +9,10 @@ use Rattle.numbers.specs.declared.size.Size.TheVariants.{B4, B8, B16, B32, B64}
 use Rattle.numbers.specs.Depth.{bits_of, depths, depth_of, is_depth}
 use Rattle.numbers.specs.declared.depth.Depth.{Depth}
 use Rattle.numbers.specs.declared.depth.Depth.TheVariants.{Eight, Ten, Twelve}
-use Rattle.std.specs.Prelude.{Ok, Err}
+use Rattle.std.specs.Prelude.{Result, Ok, Err}
 use Rattle.numbers.specs.declared.answer.Refusal.TheVariants.{BadSize, BadDepth}
-use Rattle.numbers.proofs.Look.{look-back, look-yes, look-no, ok-same, err-ok, Every, among-all}
+use Rattle.numbers.proofs.Look.{look-back, look-yes, look-no, look-else, ok-same, err-ok, Every, among-all}
+use Rattle.numbers.specs.declared.answer.Refusal.{Refusal}
 
 -- ---- Size
 pub size-there : (e : Size) → size_of (side_of e) ≡ Ok e
@@ -32,6 +33,10 @@ size-yes n e h = look-yes side_of Ok (Err BadSize) ok-same (err-ok BadSize) size
 pub size-no : (n : ℕ) → size_of n ≡ Err BadSize → is_size n ≡ false
 unfolding is_size
 size-no n h = look-no side_of Ok (Err BadSize) ok-same (err-ok BadSize) sizes n h
+
+pub size-else : {A : Type 0} (n : ℕ) {r : Refusal} (later : Result A Refusal) → Err r ≡ size_of n → Err r ≡ cond (is_size n) later (Err BadSize)
+unfolding is_size
+size-else n later h = look-else side_of BadSize sizes n later h
 
 -- a fact of each size is computed there, and used with B open
 pub size-all : (P : ℕ → Type 0) (n : ℕ) → Every (λ e. P (side_of e)) sizes → is_size n ≡ true → P n
@@ -55,6 +60,10 @@ depth-yes n e h = look-yes bits_of Ok (Err BadDepth) ok-same (err-ok BadDepth) d
 pub depth-no : (n : ℕ) → depth_of n ≡ Err BadDepth → is_depth n ≡ false
 unfolding is_depth
 depth-no n h = look-no bits_of Ok (Err BadDepth) ok-same (err-ok BadDepth) depths n h
+
+pub depth-else : {A : Type 0} (n : ℕ) {r : Refusal} (later : Result A Refusal) → Err r ≡ depth_of n → Err r ≡ cond (is_depth n) later (Err BadDepth)
+unfolding is_depth
+depth-else n later h = look-else bits_of BadDepth depths n later h
 
 -- a fact of each depth is computed there, and used with D open
 pub depth-all : (P : ℕ → Type 0) (n : ℕ) → Every (λ e. P (bits_of e)) depths → is_depth n ≡ true → P n

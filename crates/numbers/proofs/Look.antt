@@ -7,7 +7,8 @@ use Prim.Native.Nat.{ℕ}
 use native.Mathlib.Omega.{arith}
 use lib.Dec.{eqb}
 use borrow.Author.Tests.{eqb-true}
-use Rattle.std.specs.Prelude.{Result, Ok, Err}
+use Rattle.std.specs.Prelude.{Result, Ok, Err, IsErrAnd}
+use Rattle.std.proofs.lemmas.Result.{err_from_is_err_and}
 use Rattle.numbers.specs.Look.{look, among}
 
 -- cases of E as the answer F holds them: two answers that hold a case are equal only where the cases are, and `none` holds none
@@ -59,3 +60,21 @@ module _ {E R : Type 0} where
 
   pub err-ok : (r : R) (e : E) → ◌≡◌ {A = Result E R} (Err r) (Ok e) → ⊥
   err-ok r e h = grind arith
+
+  pub err-same : (r q : R) → ◌≡◌ {A = Result E R} (Err r) (Err q) → r ≡ q
+  err-same r q h = grind arith
+
+-- a lookup that a `?` ends is a rule that is broken
+pub look-else : {E R A : Type 0} (number : E → ℕ) (none : R) (es : List E) (n : ℕ) {r : R} (later : Result A R)
+    → Err r ≡ look number Ok (Err none) es n → Err r ≡ cond (among number es n) later (Err none)
+look-else number none [] n {r = r} later h = ap Err (err-same r none h)
+look-else number none (d ∷ es) n {r = r} later h = go (eqb n (number d)) (look-else number none es n later) h
+  where
+    go : (t : Bool) → (Err r ≡ look number Ok (Err none) es n → Err r ≡ cond (among number es n) later (Err none))
+        → Err r ≡ cond t (Ok d) (look number Ok (Err none) es n) → Err r ≡ cond (t || among number es n) later (Err none)
+    go true next h = absurd (err-ok r d h)
+    go false next h = next h
+
+-- what a `?` returns is the refusal that it found
+pub passed_on : {A R : Type 0} {e : R} (r : Result A R) → IsErrAnd r (λ y. y ≡ e) → r ≡ Err e
+passed_on r h = let p = err_from_is_err_and r h in p.1 ∙ ap Err p.2

@@ -12,10 +12,7 @@ use numbers::answer::Answer;
 pub fn paeth(b: u16, d: u16, above: &[i32], left: &[i32], corner: i32, out: &mut [f32]) -> Answer
     ensures { Predicted paeth_at b d above.now left.now corner out.old out.new result }
 {
-    let answer = direct_calls::direct::direct(b, d, true, above, left, corner, out.len());
-    if !answer.is_done() {
-        return answer;
-    }
+    direct_calls::direct::direct(b, d, true, above, left, corner, out.len())?;
     block::paeth_into(b as usize, above, left, corner, out);
     answer
 }

@@ -6,8 +6,6 @@ use Prim.Native.Nat.{ℕ, ◌*◌, ◌%◌, ◌≤◌}
 use native.Mathlib.Omega.{arith}
 use lib.IntN.{ℤ}
 use lib.ListN.{length}
-use Rattle.numbers.specs.declared.answer.Answer.{Answer}
-use Rattle.numbers.specs.declared.answer.Answer.TheVariants.{Done}
 use Rattle.refusals.proofs.Ladder.{all-kept}
 use Rattle.refusals.proofs.Promise.{lent-done}
 use Rattle.block_spec.proofs.Placed.{plane-is}
@@ -25,6 +23,7 @@ use Rattle.order.specs.Rules.{jobs_in, is_once, is_kept}
 use Rattle.run_rules.specs.Rules.{run_rules, run_answer}
 use Rattle.plan.specs.Run.{Memory, in_order, plan_order, answer_for, Ran, Rows}
 use Rattle.run_rules.proofs.Tests.{parts}
+use Rattle.numbers.specs.Answer.{done, Answer}
 
 module _ (W H : ℕ) (differences : List ℤ) (plan order : List ℕ) where
   -- rules 22 and 23 are exact
@@ -46,10 +45,10 @@ module _ (W H : ℕ) (differences : List ℤ) (plan order : List ℕ) where
     pub slots : length before.answers ≡ jobs_in plan
     pub accepted : Accepted (jobs W H differences) (row_at plan) (jobs_in plan) order
 
-  pub ready : (before : Memory W H differences) → answer_for W H differences plan order before ≡ Done → Ready before
+  pub ready : (before : Memory W H differences) → answer_for W H differences plan order before ≡ done → Ready before
   unfolding run_answer
   ready before e =
-      let all = all-kept (run_rules W H (length before.pic) (length differences) plan order (length before.answers)) tt e in
+      let all = all-kept (run_rules W H (length before.pic) (length differences) plan order (length before.answers)) e in
       let p = parts plan order (length before.answers) all.1.0 in
       record {
         samples = (plane-is W H (length before.pic) all.0).2;
@@ -62,14 +61,14 @@ module _ (W H : ℕ) (differences : List ℤ) (plan order : List ℕ) where
 
   -- "A run that only ever works in plan order does not settle demand 3: its equality is shown of the definitions." (document 01, Reading strength).
   -- THE THEOREM. The order of a run that is not refused ends with the plane and the answers of the plan's own order.
-  pub any_order : (before : Memory W H differences) → answer_for W H differences plan order before ≡ Done
+  pub any_order : (before : Memory W H differences) → answer_for W H differences plan order before ≡ done
       → in_order W H differences plan order before ≡ in_order W H differences plan (plan_order plan) before
   any_order before e =
       let g = ready before e in
       reorder (jobs W H differences) (job-laws W H differences) (row_at plan) (jobs_in plan) order g.accepted before g.samples
 
   -- so a run that works in the order that it is given keeps the promise
-  pub ran-in-order : (before : Memory W H differences) (r : Answer) → r ≡ answer_for W H differences plan order before → r ≡ Done
+  pub ran-in-order : (before : Memory W H differences) (r : Answer) → r ≡ answer_for W H differences plan order before → r ≡ done
       → Ran W H differences plan order before (in_order W H differences plan order before) r
   ran-in-order before r e d = record {
     answers = e;
@@ -77,14 +76,14 @@ module _ (W H : ℕ) (differences : List ℤ) (plan order : List ℕ) where
   }
 
   -- and its rows can be done
-  pub rows-of : (before : Memory W H differences) → answer_for W H differences plan order before ≡ Done
+  pub rows-of : (before : Memory W H differences) → answer_for W H differences plan order before ≡ done
       → Rows W H (length before.pic) plan order (length before.answers)
   unfolding run_answer
   rows-of before e =
       let g = ready before e in
       let f = fresh-of-once (jobs_in plan) order g.accepted.once in
       record {
-        is-plane = (all-kept (run_rules W H (length before.pic) (length differences) plan order (length before.answers)) tt e).0;
+        is-plane = (all-kept (run_rules W H (length before.pic) (length differences) plan order (length before.answers)) e).0;
         below = λ k h. let b = f.below k (omega (arith, g.entries)) in (omega (arith, b, g.whole), omega (arith, b, g.slots));
         few = omega (arith, g.few, g.slots);
       }

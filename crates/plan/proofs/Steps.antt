@@ -8,8 +8,7 @@ use lib.IntN.{ℤ}
 use lib.Ieee.{Float}
 use lib.ListN.{length, get_or, set, take}
 use lib.Seq.{take_all}
-use Rattle.numbers.specs.Answer.{answer_number}
-use Rattle.numbers.specs.declared.answer.Answer.{Answer}
+use Rattle.numbers.specs.Answer.{answer_number, Answer}
 use Rattle.refusals.specs.Promise.{Promise}
 use Rattle.reorder.specs.Order.{do_row, run}
 use Rattle.reorder.proofs.Run.{run-next}

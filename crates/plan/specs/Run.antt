@@ -1,7 +1,6 @@
 -- What a run promises. "In a run only 20 to 23 refuse the whole. Job refusals go into the answer list (0 is done; entry i is plan row i) and the run
 -- continues." (document 01, Refusal numbers). What is promised is the plan's own order; proofs/Reorder shows that the accepted orders end the same.
 use Rattle.std.specs.Prelude.{◌≡◌, true, List, ℕ, ◌+◌, ◌*◌, ◌≤◌, ◌<◌, ℤ, Float, length, get_or}
-use Rattle.numbers.specs.declared.answer.Answer.{Answer}
 use Rattle.block_spec.specs.Rules.{is_plane}
 use Rattle.refusals.specs.Promise.{lent, Promise}
 use Rattle.reorder.specs.Order.{Sheet, run, up_from}
@@ -9,6 +8,7 @@ use Rattle.job.specs.Row.{row_at}
 use Rattle.job_work.specs.Jobs.{jobs}
 use Rattle.order.specs.Rules.{jobs_in}
 use Rattle.run_rules.specs.Rules.{run_answer}
+use Rattle.numbers.specs.Answer.{Answer}
 
 -- the memory of a run: its plane and its answer list
 abbrev pub Memory : ℕ → ℕ → List ℤ → Type 0

@@ -6,7 +6,7 @@ mod rows;
 
 ghost use Rattle.plan.specs.Run.{RanOver};
 
-use numbers::answer::Answer;
+use numbers::answer::{Answer, Refusal};
 
 // Done, with the jobs done in the order given and each job's number at its plan row in `answers`; or a refusal, with nothing written.
 pub fn run(
@@ -20,7 +20,7 @@ pub fn run(
 ) -> Answer
     ensures { RanOver width height differences.now plan.now order.now plane.old answers.old plane.new answers.new result }
 {
-    let answer = run_rules::refused(
+    run_rules::refused(
         plane.len(),
         width,
         height,
@@ -28,10 +28,7 @@ pub fn run(
         order,
         differences.len(),
         answers.len(),
-    );
-    if !answer.is_done() {
-        return answer;
-    }
+    )?;
     rows::run_order(plane, width, height, plan, order, differences, answers);
     answer
 }

@@ -10,9 +10,8 @@ use lib.Dec.{eqb}
 use lib.ListN.{length}
 use borrow.Author.Tests.{le-leb}
 use Rattle.numbers.specs.Limits.{most_jobs}
-use Rattle.numbers.specs.Answer.{answer_number, is_done}
-use Rattle.numbers.specs.declared.answer.Answer.{Answer}
-use Rattle.numbers.specs.declared.answer.Answer.TheVariants.{Done, BadCheck, OutOfTurn, BadUsed, NotZero, NoRoom}
+use Rattle.numbers.specs.Answer.{answer_number, is_done, done, Answer}
+use Rattle.numbers.specs.declared.answer.Refusal.TheVariants.{BadCheck, OutOfTurn, BadUsed, NotZero, NoRoom}
 use Rattle.numbers.proofs.Named.{done-is}
 use Rattle.refusals.specs.Ladder.{Rule, ◌else◌, ladder}
 use Rattle.refusals.proofs.Ladder.{ladder-append}
@@ -27,7 +26,7 @@ use Rattle.plan_page.specs.Page.{answer_of_file}
 
 -- done, or 40 to 44
 abbrev pub OfFile : Answer → Type 0
-OfFile a = (a ≡ Done) ⊎ ((40 ≤ answer_number a) × (answer_number a ≤ 44))
+OfFile a = (a ≡ done) ⊎ ((40 ≤ answer_number a) × (answer_number a ≤ 44))
 
 pick : (b : Bool) {x y : Answer} → OfFile x → OfFile y → OfFile (cond b x y)
 pick true p q = p

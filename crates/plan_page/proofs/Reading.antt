@@ -7,8 +7,7 @@ use native.Mathlib.Omega.{arith}
 use lib.ListN.{length, take, drop, get_or, length-take, length-append}
 use lib.Seq.{take_at}
 use Rattle.numbers.specs.Limits.{most_jobs}
-use Rattle.numbers.specs.Answer.{is_done}
-use Rattle.numbers.specs.declared.answer.Answer.{Answer}
+use Rattle.numbers.specs.Answer.{is_done, Answer}
 use Rattle.numbers.proofs.Named.{done-is}
 use Rattle.refusals.specs.Promise.{lent}
 use Rattle.refusals.proofs.Promise.{lent-done}

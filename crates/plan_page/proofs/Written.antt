@@ -4,8 +4,7 @@ use mathlib.Core.List.{List}
 use Prim.Native.Nat.{ℕ, ◌*◌, ◌<◌, ◌≤◌}
 use lib.ListN.{length, get_or}
 use Rattle.numbers.specs.Limits.{most_jobs}
-use Rattle.numbers.specs.Answer.{is_done}
-use Rattle.numbers.specs.declared.answer.Answer.TheVariants.{Done}
+use Rattle.numbers.specs.Answer.{is_done, done}
 use Rattle.block_image.specs.Image.{rows_in, image}
 use Rattle.block_image.specs.Taken.{WholeFile}
 use Rattle.block_image.specs.Fits.{Fits}
@@ -17,7 +16,7 @@ use Rattle.plan_page.specs.Page.{lines_of, answer_of_file, page_of}
 use Rattle.plan_page.proofs.PageOf.{page-accepted}
 use Rattle.plan_page.proofs.Never45.{room-for-all}
 
-file-done : (F : Format) (bytes : List ℕ) → WholeFile F bytes → answer_of_file F bytes ≡ Done
+file-done : (F : Format) (bytes : List ℕ) → WholeFile F bytes → answer_of_file F bytes ≡ done
 file-done F bytes good = read-accepted F bytes good (most_jobs * F.words) 1 (room-for-all F bytes good)
 
 -- a plan of whole rows, at most 1,024, of 16-bit words

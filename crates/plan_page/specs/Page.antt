@@ -3,8 +3,7 @@
 use Rattle.std.specs.Prelude.{cond, List, [], ◌∷◌, ◌++◌, ℕ, zero, suc, ◌*◌, ltb, take, drop}
 use Rattle.io.specs.Digits.{last_digits}
 use Rattle.numbers.specs.Limits.{most_jobs}
-use Rattle.numbers.specs.Answer.{answer_number, is_done}
-use Rattle.numbers.specs.declared.answer.Answer.{Answer}
+use Rattle.numbers.specs.Answer.{answer_number, is_done, Answer}
 use Rattle.block_image.specs.Image.{rows_in}
 use Rattle.block_image.specs.Taken.{plan_of}
 use Rattle.block_image.specs.Refusals.{file_answer}

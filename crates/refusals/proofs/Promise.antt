@@ -2,9 +2,8 @@
 use mathlib.Core.Path.{◌≡◌, sym, ◌∙◌, ap}
 use mathlib.Core.Bool.{true, false, cond}
 use Prim.Native.Nat.{ℕ}
-use Rattle.numbers.specs.Answer.{answer_number, is_done}
-use Rattle.numbers.specs.declared.answer.Answer.{Answer}
-use Rattle.numbers.specs.declared.answer.Answer.TheVariants.{Done}
+use Rattle.std.specs.Prelude.{Ok}
+use Rattle.numbers.specs.Answer.{Answer, answer_number, is_done}
 use Rattle.numbers.proofs.Named.{done-is}
 use Rattle.refusals.specs.Promise.{lent, Promise}
 
@@ -16,7 +15,7 @@ coincide p q = (p.answers ∙ sym q.answers, p.holds ∙ sym q.holds)
 pub lent-refused : {M : Type 0} (answer : Answer) (done before : M) → is_done answer ≡ false → before ≡ lent answer done before
 lent-refused answer done before e = sym (ap (λ t. cond t done before) e)
 
-pub lent-done : {M : Type 0} (answer : Answer) (done before : M) → answer ≡ Done → done ≡ lent answer done before
+pub lent-done : {M : Type 0} (answer : Answer) (done before : M) → answer ≡ Ok tt → done ≡ lent answer done before
 unfolding is_done
 lent-done answer done before e = sym (ap (λ a. lent a done before) e)
 

@@ -1,7 +1,6 @@
 -- What a call promises: its answer, and what the memory that it was lent holds afterwards, both by equations.
 use Rattle.std.specs.Prelude.{◌≡◌, cond}
-use Rattle.numbers.specs.Answer.{is_done}
-use Rattle.numbers.specs.declared.answer.Answer.{Answer}
+use Rattle.numbers.specs.Answer.{is_done, Answer}
 
 -- "A refusal changes nothing lent."
 abbrev pub lent : {M : Type 0} → Answer → M → M → M

@@ -1,13 +1,14 @@
 -- The number of a direction and the direction of a number agree, both ways. Assumes nothing.
 use mathlib.Core.Path.{◌≡◌, refl}
-use mathlib.Core.Bool.{true, false}
+use mathlib.Core.Bool.{true, false, cond}
 use Prim.Native.Nat.{ℕ}
 use Rattle.row_words.specs.Dir.{dir_number, dirs, dir_of, is_dir}
 use Rattle.row_words.specs.declared.dir.Dir.{Dir}
 use Rattle.row_words.specs.declared.dir.Dir.TheVariants.{Vertical, Horizontal, D45, D135, D113, D157, D203, D67}
 use Rattle.numbers.specs.declared.answer.Refusal.TheVariants.{BadMode}
-use Rattle.std.specs.Prelude.{Ok, Err}
-use Rattle.numbers.proofs.Look.{look-back, look-yes, look-no, ok-same, err-ok}
+use Rattle.std.specs.Prelude.{Result, Ok, Err}
+use Rattle.numbers.proofs.Look.{look-back, look-yes, look-no, look-else, ok-same, err-ok}
+use Rattle.numbers.specs.declared.answer.Refusal.{Refusal}
 
 -- ---- Dir
 pub dir-there : (e : Dir) → dir_of (dir_number e) ≡ Ok e
@@ -31,3 +32,7 @@ dir-yes n e h = look-yes dir_number Ok (Err BadMode) ok-same (err-ok BadMode) di
 pub dir-no : (n : ℕ) → dir_of n ≡ Err BadMode → is_dir n ≡ false
 unfolding is_dir
 dir-no n h = look-no dir_number Ok (Err BadMode) ok-same (err-ok BadMode) dirs n h
+
+pub dir-else : {A : Type 0} (n : ℕ) {r : Refusal} (later : Result A Refusal) → Err r ≡ dir_of n → Err r ≡ cond (is_dir n) later (Err BadMode)
+unfolding is_dir
+dir-else n later h = look-else dir_number BadMode dirs n later h

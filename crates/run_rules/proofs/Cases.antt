@@ -7,9 +7,8 @@ use Rattle.numbers.specs.Size.{is_size}
 use Rattle.numbers.specs.Depth.{is_depth}
 use Rattle.row_words.specs.Dir.{is_dir, is_delta}
 use Rattle.row_words.specs.Flag.{is_set, no_stray}
-use Rattle.numbers.specs.Answer.{is_done}
-use Rattle.numbers.specs.declared.answer.Answer.{Answer}
-use Rattle.numbers.specs.declared.answer.Answer.TheVariants.{Done, NotEachOnce, PairTurned}
+use Rattle.numbers.specs.Answer.{is_done, done, Answer}
+use Rattle.numbers.specs.declared.answer.Refusal.TheVariants.{NotEachOnce, PairTurned}
 use Rattle.block_spec.specs.Rules.{is_plane, is_inside, is_reach, has_neighbours, is_base}
 use Rattle.reorder.specs.Test.{all_below}
 use Rattle.reorder.specs.Entry.{count, place}
@@ -36,6 +35,6 @@ answer_of B order = run_answer 16 4 64 16 (alone 0 B ++ (beside 4 ++ alone 12 4)
 -- the plan's own order; another; the touching pair turned round; a row twice; the same pair where the left block's side is 5, which fails 1 and
 -- touches nothing
 pub cases : (answer_of 4 (0 ∷ 1 ∷ 2 ∷ []) ∷ answer_of 4 (2 ∷ 0 ∷ 1 ∷ []) ∷ answer_of 4 (1 ∷ 0 ∷ 2 ∷ []) ∷ answer_of 4 (0 ∷ 0 ∷ 2 ∷ []) ∷ answer_of 5 (1 ∷ 0 ∷ 2 ∷ []) ∷ [])
-    ≡ (Done ∷ Done ∷ PairTurned ∷ NotEachOnce ∷ Done ∷ [])
+    ≡ (done ∷ done ∷ PairTurned ∷ NotEachOnce ∷ done ∷ [])
 unfolding run_answer is_plane is_plan is_once is_kept once_b kept_b all_below count place clash_of clash_b cross_b meet_any_b meet_b reads_of writes_of stands row_answer is_size is_depth is_mode row_mode named_mode is_dir is_delta no_stray is_set is_inside has_neighbours is_reach is_base has_differences is_done
 cases = refl

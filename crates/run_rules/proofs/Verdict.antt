@@ -3,14 +3,13 @@ use mathlib.Core.Path.{◌≡◌, refl, ap}
 use mathlib.Core.Logic.{◌↔◌}
 use mathlib.Core.Bool.{Bool, true, false, cond}
 use native.Mathlib.Omega.{arith}
-use Rattle.numbers.specs.Answer.{answer_number}
-use Rattle.numbers.specs.declared.answer.Answer.{Answer}
-use Rattle.numbers.specs.declared.answer.Answer.TheVariants.{Done, NotEachOnce, PairTurned}
+use Rattle.numbers.specs.Answer.{answer_number, done, Answer}
+use Rattle.numbers.specs.declared.answer.Refusal.TheVariants.{NotEachOnce, PairTurned}
 use Rattle.reorder.specs.Test.{Decides}
 use Rattle.reorder.proofs.Test.{fails}
 
 abbrev pub verdict : Bool → Bool → Answer
-verdict once kept = cond once (cond kept Done PairTurned) NotEachOnce
+verdict once kept = cond once (cond kept done PairTurned) NotEachOnce
 
 module _ (once kept : Bool) (O K : Type 0) (eo : Decides once O) (ek : Decides kept K) where
   pub verdict-22 : (verdict once kept ≡ NotEachOnce) ↔ (¬ O)

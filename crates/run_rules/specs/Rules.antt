@@ -1,11 +1,11 @@
 -- "A run tests 20 to 23" (document 01, Refusal numbers, in order of checking).
 use Rattle.std.specs.Prelude.{Bool, ◌&&◌, List, [], ◌∷◌, ℕ, ◌%◌, leb, eqb, length}
 use Rattle.numbers.specs.Limits.{most_jobs, row_words}
-use Rattle.numbers.specs.declared.answer.Answer.{Answer}
-use Rattle.numbers.specs.declared.answer.Answer.TheVariants.{BadPlane, BadPlan, NotEachOnce, PairTurned}
+use Rattle.numbers.specs.declared.answer.Refusal.TheVariants.{BadPlane, BadPlan, NotEachOnce, PairTurned}
 use Rattle.refusals.specs.Ladder.{Rule, ◌else◌, ladder}
 use Rattle.block_spec.specs.Rules.{is_plane}
 use Rattle.order.specs.Rules.{jobs_in, is_once, is_kept}
+use Rattle.numbers.specs.Answer.{Answer}
 
 -- "A plan has 0 to 1,024 jobs." 21: "plan not whole rows or above 1,024 jobs; order or answer list not one entry a job"
 unfoldable pub is_plan : List ℕ → ℕ → ℕ → Bool

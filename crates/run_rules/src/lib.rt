@@ -4,7 +4,7 @@
 ghost use Rattle.std.specs.Prelude.{◌≡◌};
 ghost use Rattle.run_rules.specs.Rules.{is_plan, run_answer};
 
-use numbers::answer::Answer;
+use numbers::answer::{Answer, Refusal};
 use numbers::plan::Plan;
 use order::kept;
 use row_words::word::Word;
@@ -39,19 +39,19 @@ pub fn refused(
     ensures { result ≡ run_answer width height samples n plan.now order.now answers }
 {
     if !block_spec::rules::is_plane(width, height, samples) {
-        return Answer::BadPlane;
+        return Err(Refusal::BadPlane);
     }
     if !is_plan(plan, order.len(), answers) {
-        return Answer::BadPlan;
+        return Err(Refusal::BadPlan);
     }
     if each_once::is_plan_order(order) {
-        return Answer::Done;
+        return Ok(());
     }
     if !each_once::once(order) {
-        return Answer::NotEachOnce;
+        return Err(Refusal::NotEachOnce);
     }
     if !kept::kept(width, height, n, plan, order) {
-        return Answer::PairTurned;
+        return Err(Refusal::PairTurned);
     }
-    Answer::Done
+    Ok(())
 }

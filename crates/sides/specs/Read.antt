@@ -1,7 +1,7 @@
 -- "a plane sample or edge entry that is read is not a number in 0..M" (document 01, Refusal numbers, 8): which samples are read, and their test.
 use Rattle.std.specs.Prelude.{Bool, ◌&&◌, List, [], ◌∷◌, ℕ, ◌*◌, pos, Float}
 use Rattle.numbers.specs.Depth.{most}
-use Rattle.numbers.specs.declared.answer.Answer.TheVariants.{BadSample}
+use Rattle.numbers.specs.declared.answer.Refusal.TheVariants.{BadSample}
 use Rattle.refusals.specs.Ladder.{Rule, ◌else◌}
 use Rattle.edge_line.specs.Every.{every}
 use Rattle.block_spec.specs.declared.spec.IntraRefSpec.{IntraRefSpec}

@@ -1,8 +1,7 @@
 -- One job by itself: what it answers, and the plane afterwards.
 use Rattle.std.specs.Prelude.{List, ◌∷◌, ◌++◌, ℕ, eqb, ℤ, Float, length}
 use Rattle.numbers.specs.Limits.{row_words}
-use Rattle.numbers.specs.declared.answer.Answer.{Answer}
-use Rattle.numbers.specs.declared.answer.Answer.TheVariants.{BadPlane, BadPlan}
+use Rattle.numbers.specs.declared.answer.Refusal.TheVariants.{BadPlane, BadPlan}
 use Rattle.refusals.specs.Ladder.{Rule, ◌else◌, ladder}
 use Rattle.refusals.specs.Promise.{lent, Promise}
 use Rattle.block_spec.specs.Rules.{is_plane}
@@ -10,6 +9,7 @@ use Rattle.sides.specs.Read.{read_rules}
 use Rattle.job.specs.Row.{Row, spec_of}
 use Rattle.job.specs.Rules.{row_rules}
 use Rattle.job_work.specs.Done.{job_done}
+use Rattle.numbers.specs.Answer.{Answer}
 
 -- "a single job 20, 21, then the same"; 21: "a single job not 16 words"
 abbrev pub single_rules : ℕ → ℕ → ℕ → Row → List Float → List Rule

@@ -7,7 +7,7 @@ ghost use Rattle.job_work.specs.Granted.{Tested, read_answer, read_done};
 ghost use Rattle.single_job.specs.Single.{SingleDone};
 
 use job::job::{FoundJob, Job};
-use numbers::answer::Answer;
+use numbers::answer::{Answer, Refusal};
 use row_words::word::Word;
 
 // A job that 1 to 7 do not refuse, with room for its prediction: the edges have theirs here.
@@ -53,10 +53,10 @@ pub fn run_job(
     ensures { SingleDone width height differences.now row.now plane.old plane.new result }
 {
     if !block_spec::rules::is_plane(width, height, plane.len()) {
-        return Answer::BadPlane;
+        return Err(Refusal::BadPlane);
     }
     if row.len() != Word::COUNT {
-        return Answer::BadPlan;
+        return Err(Refusal::BadPlan);
     }
     match job::rules::read_row(width, height, differences.len(), row) {
         FoundJob::Refused(answer) => answer,

@@ -12,10 +12,7 @@ use numbers::answer::Answer;
 pub fn smooth(b: u16, d: u16, above: &[i32], left: &[i32], corner: i32, out: &mut [f32]) -> Answer
     ensures { Predicted smooth_at b d above.now left.now corner out.old out.new result }
 {
-    let answer = direct_calls::direct::direct(b, d, true, above, left, corner, out.len());
-    if !answer.is_done() {
-        return answer;
-    }
+    direct_calls::direct::direct(b, d, true, above, left, corner, out.len())?;
     block::smooth_into(b as usize, above, left, out);
     answer
 }
@@ -24,10 +21,7 @@ pub fn smooth(b: u16, d: u16, above: &[i32], left: &[i32], corner: i32, out: &mu
 pub fn smooth_v(b: u16, d: u16, above: &[i32], left: &[i32], corner: i32, out: &mut [f32]) -> Answer
     ensures { Predicted smooth_v_at b d above.now left.now corner out.old out.new result }
 {
-    let answer = direct_calls::direct::direct(b, d, true, above, left, corner, out.len());
-    if !answer.is_done() {
-        return answer;
-    }
+    direct_calls::direct::direct(b, d, true, above, left, corner, out.len())?;
     block::smooth_v_into(b as usize, above, left, out);
     answer
 }
@@ -36,10 +30,7 @@ pub fn smooth_v(b: u16, d: u16, above: &[i32], left: &[i32], corner: i32, out: &
 pub fn smooth_h(b: u16, d: u16, above: &[i32], left: &[i32], corner: i32, out: &mut [f32]) -> Answer
     ensures { Predicted smooth_h_at b d above.now left.now corner out.old out.new result }
 {
-    let answer = direct_calls::direct::direct(b, d, true, above, left, corner, out.len());
-    if !answer.is_done() {
-        return answer;
-    }
+    direct_calls::direct::direct(b, d, true, above, left, corner, out.len())?;
     block::smooth_h_into(b as usize, above, left, out);
     answer
 }

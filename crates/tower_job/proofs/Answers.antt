@@ -6,7 +6,7 @@ use Prim.Native.Nat.{ℕ}
 use Rattle.numbers.specs.Answer.{is_done}
 use Rattle.numbers.specs.Depth.{is_depth}
 use Rattle.numbers.specs.Size.{is_size}
-use Rattle.numbers.specs.declared.answer.Answer.TheVariants.{BadSize, BadDepth, BadMode}
+use Rattle.numbers.specs.declared.answer.Refusal.TheVariants.{BadSize, BadDepth, BadMode}
 use Rattle.refusals.specs.Ladder.{◌else◌, ladder}
 use Rattle.block_spec.specs.Rules.{size_rules}
 use Rattle.block_spec.specs.declared.spec.IntraRefSpec.{IntraRefSpec}

@@ -3,9 +3,7 @@ use mathlib.Core.Path.{◌≡◌, refl, sym, ◌∙◌, ap}
 use mathlib.Core.Bool.{Bool, true, false, cond}
 use Prim.Native.Nat.{ℕ}
 use native.Mathlib.Omega.{arith}
-use Rattle.numbers.specs.Answer.{is_done}
-use Rattle.numbers.specs.declared.answer.Answer.{Answer}
-use Rattle.numbers.specs.declared.answer.Answer.TheVariants.{Done}
+use Rattle.numbers.specs.Answer.{is_done, done, Answer}
 use Rattle.numbers.proofs.Named.{done-is}
 use Rattle.job.specs.Row.{Row}
 use Rattle.tower_job.specs.Rules.{tower_answer, tower_stands}
@@ -19,7 +17,7 @@ module _ (W H n : ℕ) (row : Row) where
   unfolding tower_stands
   reads-no a e d = ap Refused e ∙ sym (ap (λ t. cond t (Is (tower_job row)) (Refused (tower_answer W H n row))) (ap is_done (sym e) ∙ d))
 
-  pub reads-yes : Done ≡ tower_answer W H n row → (job : TowerJob) → job ≡ tower_job row → Is job ≡ read_tower W H n row
+  pub reads-yes : done ≡ tower_answer W H n row → (job : TowerJob) → job ≡ tower_job row → Is job ≡ read_tower W H n row
   unfolding tower_stands is_done
   reads-yes e job j = ap Is j ∙ sym (ap (λ a. cond (is_done a) (Is (tower_job row)) (Refused (tower_answer W H n row))) (sym e))
 
@@ -27,11 +25,11 @@ module _ (W H n : ℕ) (row : Row) where
   by-stands : (b : Bool) (f : FoundTower) → tower_stands W H n row ≡ b → read_tower W H n row ≡ f → cond b (Is (tower_job row)) (Refused (tower_answer W H n row)) ≡ f
   by-stands b f e r = sym (ap (λ t. cond t (Is (tower_job row)) (Refused (tower_answer W H n row))) e) ∙ r
 
-  pub answer-yes : (job : TowerJob) → read_tower W H n row ≡ Is job → Done ≡ tower_answer W H n row
+  pub answer-yes : (job : TowerJob) → read_tower W H n row ≡ Is job → done ≡ tower_answer W H n row
   unfolding tower_stands
   answer-yes job r = go (tower_stands W H n row) refl
     where
-      go : (b : Bool) → tower_stands W H n row ≡ b → Done ≡ tower_answer W H n row
+      go : (b : Bool) → tower_stands W H n row ≡ b → done ≡ tower_answer W H n row
       go true e = sym (done-is (tower_answer W H n row) e)
       go false e = let q = by-stands false (Is job) e r in let z : ◌≡◌ {A = ℕ} 0 1 = cc in absurd (omega arith)
 

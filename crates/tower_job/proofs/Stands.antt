@@ -61,7 +61,7 @@ module _ (W H n : ℕ) (row : Row) where
   unfolding tower_stands is_colour_lines
   colour-placed m e =
       let c = colour_of_row row in
-      let k = all_of (colour_rules W H row) tt (ap is_done (sym (by-colour W H n row m)) ∙ e) in
+      let k = all_of (colour_rules W H row) (ap is_done (sym (by-colour W H n row m)) ∙ e) in
       let s = spans W H c k.1.1.0 in
       let r = sizes W H c k.1.1.1.1.0 in
       let l = and_both (is_lines c.above_lines c.left_lines) _ k.1.1.1.1.1.0 in
@@ -101,7 +101,7 @@ module _ (W H n : ℕ) (row : Row) where
       base false m t = absurd (true≢false (sym e ∙ ap is_done (tower-not W H n row m t) ∙ not_done (spec_of (base_row row))))
 
       go : (b : Bool) → is_colour_mode row ≡ b → is_tower row ≡ true
-      go true m = (all_of (colour_rules W H row) tt (ap is_done (sym (by-colour W H n row m)) ∙ e)).1.0
+      go true m = (all_of (colour_rules W H row) (ap is_done (sym (by-colour W H n row m)) ∙ e)).1.0
       go false m = base (is_tower row) m refl
 
   -- the other modes: the first library's rules are kept

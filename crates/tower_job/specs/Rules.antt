@@ -1,10 +1,9 @@
 -- The refusals of a tower's job before 8, in order of checking (document 01, Refusal numbers; document 02, request (v)).
 use Rattle.std.specs.Prelude.{Bool, cond, List, [], ◌∷◌, ◌++◌, ℕ}
-use Rattle.numbers.specs.Answer.{is_done}
+use Rattle.numbers.specs.Answer.{is_done, Answer}
 use Rattle.numbers.specs.Colour.{is_colour}
 use Rattle.numbers.specs.Depth.{is_depth}
-use Rattle.numbers.specs.declared.answer.Answer.{Answer}
-use Rattle.numbers.specs.declared.answer.Answer.TheVariants.{BadDepth, BadMode, OutsidePlane, NoDifferences, BadColourDirection, BadReference, BadLines}
+use Rattle.numbers.specs.declared.answer.Refusal.TheVariants.{BadDepth, BadMode, OutsidePlane, NoDifferences, BadColourDirection, BadReference, BadLines}
 use Rattle.refusals.specs.Ladder.{Rule, ◌else◌, ladder}
 use Rattle.block_spec.specs.Rules.{size_rules, place_rules}
 use Rattle.colour_terms.specs.Reference.{is_sizes}

@@ -22,10 +22,7 @@ fn not_tower(row: &[u16]) -> Answer
 {
     let start = 0;
     let end = Word::COUNT;
-    let sizes = answer::size_answer(job::row::spec_of(&row[start..end]));
-    if !sizes.is_done() {
-        return sizes;
-    }
+    answer::size_answer(job::row::spec_of(&row[start..end]))?;
     Answer::BadMode
 }
 

@@ -9,9 +9,9 @@ use crate::tower::{FoundTower, TowerJob, TowerMode};
 use crate::{base, colour, row, tests};
 use colour_terms::reference::Reference;
 use colour_words::ColourWords;
-use numbers::answer::Answer;
-use numbers::colour::{ColourDirection, FoundColour};
-use numbers::depth::{Depth, FoundDepth};
+use numbers::answer::{Answer, Refusal};
+use numbers::colour::ColourDirection;
+use numbers::depth::Depth;
 use tower_words::word::TowerWord;
 
 // 4, 10, 11 and 12 of mode 5.
@@ -19,22 +19,22 @@ fn span_answer(width: usize, height: usize, c: ColourWords) -> Answer
     ensures { result ≡ ladder (span_rules width height c) }
 {
     if !tests::is_in_planes(width, height, c) {
-        return Answer::OutsidePlane;
+        return Err(Refusal::OutsidePlane);
     }
     let FoundColour::Is(_) = ColourDirection::of(c.direction as u32) else {
-        return Answer::BadColourDirection;
+        return Err(Refusal::BadColourDirection);
     };
     let r = Reference {
         width: c.ref_width as usize,
         height: c.ref_height as usize,
     };
     if !r.is_sizes() {
-        return Answer::BadReference;
+        return Err(Refusal::BadReference);
     }
     if !tests::is_colour_lines(c) {
-        return Answer::BadLines;
+        return Err(Refusal::BadLines);
     }
-    Answer::Done
+    Ok(())
 }
 
 // The job of a row in mode 5, or the refusal.

@@ -6,8 +6,6 @@ use Prim.Native.Nat.{ℕ, ◌*◌, ◌%◌, ◌≤◌}
 use native.Mathlib.Omega.{arith}
 use lib.IntN.{ℤ}
 use lib.ListN.{length}
-use Rattle.numbers.specs.declared.answer.Answer.{Answer}
-use Rattle.numbers.specs.declared.answer.Answer.TheVariants.{Done}
 use Rattle.refusals.proofs.Ladder.{all-kept}
 use Rattle.refusals.proofs.Promise.{lent-done}
 use Rattle.block_spec.proofs.Placed.{plane-is}
@@ -27,6 +25,7 @@ use Rattle.tower_order.specs.Rules.{tower_jobs_in, is_tower_once, is_tower_kept}
 use Rattle.tower_rules.specs.Rules.{tower_run_rules, tower_run_answer}
 use Rattle.tower_plan.specs.Run.{TowerMemory, tower_in_order, tower_plan_order, tower_answer_for, TowerRan, TowerRows}
 use Rattle.tower_rules.proofs.Tests.{planes-of, parts}
+use Rattle.numbers.specs.Answer.{done, Answer}
 
 module _ (W H : ℕ) (differences : List ℤ) (plan order : List ℕ) where
   -- rules 22 and 23 are exact
@@ -49,10 +48,10 @@ module _ (W H : ℕ) (differences : List ℤ) (plan order : List ℕ) where
     pub slots : length before.answers ≡ tower_jobs_in plan
     pub accepted : Accepted (tower_jobs W H differences) (tower_row plan) (tower_jobs_in plan) order
 
-  pub ready : (before : TowerMemory W H differences) → tower_answer_for W H differences plan order before ≡ Done → Ready before
+  pub ready : (before : TowerMemory W H differences) → tower_answer_for W H differences plan order before ≡ done → Ready before
   unfolding tower_run_answer
   ready before e =
-      let all = all-kept (tower_run_rules W H (length before.pic.p0) (length before.pic.p1) (length before.pic.p2) (length differences) plan order (length before.answers)) tt e in
+      let all = all-kept (tower_run_rules W H (length before.pic.p0) (length before.pic.p1) (length before.pic.p2) (length differences) plan order (length before.answers)) e in
       let p = parts plan order (length before.answers) all.1.0 in
       let q = planes-of W H (length before.pic.p0) (length before.pic.p1) (length before.pic.p2) all.0 in
       record {
@@ -71,14 +70,14 @@ module _ (W H : ℕ) (differences : List ℤ) (plan order : List ℕ) where
 
   -- "A run that only ever works in plan order does not settle demand 3: its equality is shown of the definitions." (document 01, Reading strength).
   -- THE THEOREM. The order of a run that is not refused ends with the planes and the answers of the plan's own order.
-  pub tower-any-order : (before : TowerMemory W H differences) → tower_answer_for W H differences plan order before ≡ Done
+  pub tower-any-order : (before : TowerMemory W H differences) → tower_answer_for W H differences plan order before ≡ done
       → tower_in_order W H differences plan order before ≡ tower_in_order W H differences plan (tower_plan_order plan) before
   tower-any-order before e =
       let g = ready before e in
       reorder (tower_jobs W H differences) (tower-laws W H differences) (tower_row plan) (tower_jobs_in plan) order g.accepted before g.samples
 
   -- so a run that works in the order that it is given keeps the promise
-  pub tower-ran-in-order : (before : TowerMemory W H differences) (r : Answer) → r ≡ tower_answer_for W H differences plan order before → r ≡ Done
+  pub tower-ran-in-order : (before : TowerMemory W H differences) (r : Answer) → r ≡ tower_answer_for W H differences plan order before → r ≡ done
       → TowerRan W H differences plan order before (tower_in_order W H differences plan order before) r
   tower-ran-in-order before r e d = record {
     answers = e;
@@ -86,7 +85,7 @@ module _ (W H : ℕ) (differences : List ℤ) (plan order : List ℕ) where
   }
 
   -- and its rows can be done
-  pub tower-rows-of : (before : TowerMemory W H differences) → tower_answer_for W H differences plan order before ≡ Done
+  pub tower-rows-of : (before : TowerMemory W H differences) → tower_answer_for W H differences plan order before ≡ done
       → TowerRows W H before.pic plan order (length before.answers)
   tower-rows-of before e =
       let g = ready before e in

@@ -1,7 +1,6 @@
 -- What a tower's run promises (document 01, Refusal numbers; document 02, request (v)): "clash, read, write and demand 3 span all three planes". What is
 -- promised is the plan's own order; proofs/Reorder shows that the accepted orders end the same.
 use Rattle.std.specs.Prelude.{◌≡◌, List, ℕ, ◌+◌, ◌*◌, ◌≤◌, ◌<◌, ℤ, Float, length, get_or}
-use Rattle.numbers.specs.declared.answer.Answer.{Answer}
 use Rattle.refusals.specs.Promise.{lent, Promise}
 use Rattle.reorder.specs.Order.{Sheet, run, up_from}
 use Rattle.planes.specs.Three.{Three}
@@ -10,6 +9,7 @@ use Rattle.tower_work.specs.Jobs.{tower_jobs}
 use Rattle.tower_work.specs.Granted.{ArePlanes}
 use Rattle.tower_order.specs.Rules.{tower_jobs_in}
 use Rattle.tower_rules.specs.Rules.{tower_run_answer}
+use Rattle.numbers.specs.Answer.{Answer}
 
 -- the memory of a run: its three planes and its answer list
 abbrev pub TowerMemory : ℕ → ℕ → List ℤ → Type 0

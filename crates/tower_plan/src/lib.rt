@@ -23,7 +23,7 @@ pub fn run(
 ) -> Answer
     ensures { TowerRanOver width height differences.now plan.now order.now (three p0.old p1.old p2.old) answers.old (three p0.new p1.new p2.new) answers.new result }
 {
-    let answer = tower_rules::refused(
+    tower_rules::refused(
         p0.len(),
         p1.len(),
         p2.len(),
@@ -33,10 +33,7 @@ pub fn run(
         order,
         differences.len(),
         answers.len(),
-    );
-    if !answer.is_done() {
-        return answer;
-    }
+    )?;
     rows::run_order(p0, p1, p2, width, height, plan, order, differences, answers);
     answer
 }

@@ -1,12 +1,12 @@
 -- "A run tests 20 to 23" (document 01, Refusal numbers, in order of checking), of a tower's run (document 02, request (v)).
 use Rattle.std.specs.Prelude.{Bool, ◌&&◌, List, [], ◌∷◌, ℕ, ◌%◌, leb, eqb, length}
 use Rattle.numbers.specs.Limits.{most_jobs}
-use Rattle.numbers.specs.declared.answer.Answer.{Answer}
-use Rattle.numbers.specs.declared.answer.Answer.TheVariants.{BadPlane, BadPlan, NotEachOnce, PairTurned}
+use Rattle.numbers.specs.declared.answer.Refusal.TheVariants.{BadPlane, BadPlan, NotEachOnce, PairTurned}
 use Rattle.refusals.specs.Ladder.{Rule, ◌else◌, ladder}
 use Rattle.block_spec.specs.Rules.{is_plane}
 use Rattle.tower_words.specs.Limits.{tower_words}
 use Rattle.tower_order.specs.Rules.{tower_jobs_in, is_tower_once, is_tower_kept}
+use Rattle.numbers.specs.Answer.{Answer}
 
 -- 20, of planes with so many samples: "All planes are W by H."
 unfoldable pub are_planes : ℕ → ℕ → ℕ → ℕ → ℕ → Bool

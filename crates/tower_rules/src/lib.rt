@@ -4,7 +4,7 @@
 ghost use Rattle.std.specs.Prelude.{◌≡◌};
 ghost use Rattle.tower_rules.specs.Rules.{are_planes, is_tower_plan, tower_run_answer};
 
-use numbers::answer::Answer;
+use numbers::answer::{Answer, Refusal};
 use numbers::plan::Plan;
 use tower_order::kept;
 use tower_words::word::TowerWord;
@@ -51,19 +51,19 @@ pub fn refused(
     ensures { result ≡ tower_run_answer width height n0 n1 n2 n plan.now order.now answers }
 {
     if !are_planes(width, height, n0, n1, n2) {
-        return Answer::BadPlane;
+        return Err(Refusal::BadPlane);
     }
     if !is_plan(plan, order.len(), answers) {
-        return Answer::BadPlan;
+        return Err(Refusal::BadPlan);
     }
     if each_once::is_plan_order(order) {
-        return Answer::Done;
+        return Ok(());
     }
     if !each_once::once(order) {
-        return Answer::NotEachOnce;
+        return Err(Refusal::NotEachOnce);
     }
     if !kept::kept(width, height, n, plan, order) {
-        return Answer::PairTurned;
+        return Err(Refusal::PairTurned);
     }
-    Answer::Done
+    Ok(())
 }

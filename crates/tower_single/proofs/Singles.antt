@@ -7,9 +7,8 @@ use lib.Dec.{eqb}
 use lib.IntN.{ℤ}
 use lib.Ieee.{Float}
 use lib.ListN.{length}
-use Rattle.numbers.specs.Answer.{is_done}
-use Rattle.numbers.specs.declared.answer.Answer.{Answer}
-use Rattle.numbers.specs.declared.answer.Answer.TheVariants.{BadPlane, BadPlan}
+use Rattle.numbers.specs.Answer.{is_done, Answer}
+use Rattle.numbers.specs.declared.answer.Refusal.TheVariants.{BadPlane, BadPlan}
 use Rattle.refusals.specs.Ladder.{ladder}
 use Rattle.refusals.specs.Promise.{lent}
 use Rattle.refusals.proofs.Promise.{refused}

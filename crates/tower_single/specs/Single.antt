@@ -1,7 +1,6 @@
 -- One job of a tower by itself: what it answers, and the three planes afterwards (document 01, Refusal numbers; document 02, request (v)).
 use Rattle.std.specs.Prelude.{List, ◌∷◌, ◌++◌, ℕ, eqb, ℤ, Float, length}
-use Rattle.numbers.specs.declared.answer.Answer.{Answer}
-use Rattle.numbers.specs.declared.answer.Answer.TheVariants.{BadPlane, BadPlan}
+use Rattle.numbers.specs.declared.answer.Refusal.TheVariants.{BadPlane, BadPlan}
 use Rattle.refusals.specs.Ladder.{Rule, ◌else◌, ladder}
 use Rattle.refusals.specs.Promise.{lent, Promise}
 use Rattle.planes.specs.Three.{Three}
@@ -10,6 +9,7 @@ use Rattle.tower_words.specs.Limits.{tower_words}
 use Rattle.tower_job.specs.Rules.{tower_rules}
 use Rattle.tower_rules.specs.Rules.{are_planes}
 use Rattle.tower_work.specs.Done.{tower_read_rules, tower_done}
+use Rattle.numbers.specs.Answer.{Answer}
 
 -- "a single job 20, 21, then the same"; "21 for rows not 32 words"
 abbrev pub tower_single_rules : ℕ → ℕ → ℕ → Row → Three Float → List Rule

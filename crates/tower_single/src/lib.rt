@@ -7,7 +7,7 @@ mod room;
 ghost use Rattle.tower_work.specs.Granted.{three};
 ghost use Rattle.tower_single.specs.Single.{TowerSingle};
 
-use numbers::answer::Answer;
+use numbers::answer::{Answer, Refusal};
 use tower_job::tower::FoundTower;
 use tower_words::word::TowerWord;
 
@@ -24,10 +24,10 @@ pub fn run_job(
     ensures { TowerSingle width height differences.now row.now (three p0.old p1.old p2.old) (three p0.new p1.new p2.new) result }
 {
     if !tower_rules::are_planes(width, height, p0.len(), p1.len(), p2.len()) {
-        return Answer::BadPlane;
+        return Err(Refusal::BadPlane);
     }
     if row.len() != TowerWord::COUNT {
-        return Answer::BadPlan;
+        return Err(Refusal::BadPlan);
     }
     match tower_job::rules::read_row(width, height, differences.len(), row) {
         FoundTower::Refused(answer) => answer,

@@ -6,7 +6,6 @@ use native.Mathlib.Nat.{mul-le-mul}
 use native.Mathlib.Omega.{arith}
 use lib.IntN.{ℤ}
 use lib.Ieee.{Float}
-use Rattle.numbers.specs.declared.answer.Answer.{Answer}
 use Rattle.planes.specs.Three.{Three}
 use Rattle.job.specs.declared.job.Job.{Job}
 use Rattle.job_work.specs.Granted.{Tested}
@@ -15,6 +14,7 @@ use Rattle.colour_words.specs.Placed.{ColourLaid}
 use Rattle.tower_job.specs.declared.tower.TowerMode.{TowerMode}
 use Rattle.tower_job.specs.declared.tower.TowerMode.TheVariants.{Base, Colour}
 use Rattle.tower_work.specs.Granted.{TowerRead, TowerLeft, BaseOn, ColourOn, ColourRoom}
+use Rattle.numbers.specs.Answer.{Answer}
 
 module _ (W n size k : ℕ) (m : TowerMode) (r : TowerRead W n size m k) where
   pub base-asks : (job : Job) → m ≡ Base job → Tested W n size job × (job.spec.b * job.spec.b ≤ 4096)

@@ -4,8 +4,7 @@ use mathlib.Core.Bool.{Bool, true, false, cond}
 use mathlib.Core.List.{List}
 use Prim.Native.Nat.{ℕ, ◌≤◌}
 use lib.Ieee.{Float}
-use Rattle.numbers.specs.Answer.{is_done}
-use Rattle.numbers.specs.declared.answer.Answer.{Answer}
+use Rattle.numbers.specs.Answer.{is_done, Answer}
 use Rattle.refusals.specs.Promise.{lent, Promise}
 use Rattle.planes.specs.Three.{Three, plane_in, with_plane}
 use Rattle.planes.proofs.Three.{by-plane}

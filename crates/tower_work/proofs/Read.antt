@@ -6,8 +6,7 @@ use Prim.Native.Nat.{ℕ}
 use lib.IntN.{ℤ}
 use lib.Ieee.{Float}
 use lib.ListN.{length}
-use Rattle.numbers.specs.Answer.{is_done}
-use Rattle.numbers.specs.declared.answer.Answer.{Answer}
+use Rattle.numbers.specs.Answer.{is_done, Answer}
 use Rattle.refusals.specs.Promise.{lent}
 use Rattle.refusals.proofs.Promise.{lent-refused, refused}
 use Rattle.block_spec.proofs.Placed.{plane-is}

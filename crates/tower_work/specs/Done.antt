@@ -1,6 +1,5 @@
 -- One job of a tower's run done: its answer, and the three planes afterwards (document 02, request (v)).
 use Rattle.std.specs.Prelude.{cond, List, ◌++◌, ℕ, ℤ, Float, length}
-use Rattle.numbers.specs.declared.answer.Answer.{Answer}
 use Rattle.refusals.specs.Ladder.{Rule, ladder}
 use Rattle.refusals.specs.Promise.{lent, Promise}
 use Rattle.sides.specs.Read.{read_rules}
@@ -12,6 +11,7 @@ use Rattle.colour_job.specs.Done.{colour_done}
 use Rattle.tower_words.specs.Limits.{luma_plane}
 use Rattle.tower_job.specs.Row.{base_row, plane_of, is_colour_mode, colour_of_row}
 use Rattle.tower_job.specs.Rules.{tower_rules}
+use Rattle.numbers.specs.Answer.{Answer}
 
 -- the plane that the job is on
 abbrev pub own_plane : Row → Three Float → List Float

@@ -1,6 +1,5 @@
 -- What the code of a tower's job goes by: three planes of one length, and what a job that was read leaves of them.
 use Rattle.std.specs.Prelude.{◌≡◌, true, List, ℕ, ◌*◌, ◌≤◌, ℤ, Float, length}
-use Rattle.numbers.specs.declared.answer.Answer.{Answer}
 use Rattle.refusals.specs.Promise.{Promise}
 use Rattle.block_spec.specs.Rules.{is_plane}
 use Rattle.planes.specs.Three.{Three, plane_in, with_plane}
@@ -12,6 +11,7 @@ use Rattle.colour_words.specs.declared.ColourWords.{ColourWords}
 use Rattle.colour_words.specs.Placed.{ColourLaid}
 use Rattle.colour_job.specs.Answer.{colour_answer}
 use Rattle.colour_job.specs.Done.{colour_done}
+use Rattle.numbers.specs.Answer.{Answer}
 
 abbrev pub three : List Float → List Float → List Float → Three Float
 three p0 p1 p2 = record { p0 = p0; p1 = p1; p2 = p2 }

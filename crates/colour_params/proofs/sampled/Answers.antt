@@ -3,7 +3,6 @@ use mathlib.Core.Path.{sym, ◌∙◌, ap, subst}
 use Prim.Native.Nat.{ℕ, ◌*◌, ◌≤◌}
 use native.Mathlib.Omega.{arith}
 use Rattle.numbers.specs.Depth.{most}
-use Rattle.numbers.specs.declared.answer.Answer.TheVariants.{Done}
 use Rattle.colour_terms.specs.Terms.{entry}
 use Rattle.colour_samples.specs.Nine.{NineMost}
 use Rattle.colour_samples.specs.declared.nine.Nine.{Nine}
@@ -16,12 +15,13 @@ use Rattle.colour_solve.specs.Shift.{params_of}
 use Rattle.colour_solve.specs.Small.{is_small}
 use Rattle.colour_params.proofs.Samples.{sampled-none, sampled-bad, sampled-large, sampled-done}
 use Rattle.colour_params.proofs.sampled.Goals as goal
+use Rattle.numbers.specs.Answer.{done}
 
 pub returns-then-n-eq0 : goal.returns-then-n-eq0
 returns-then-n-eq0 c =
     let a = c.args in
     c.accepted.ensures
-    ∙ (λ j. record { answer = Done; params = c.flat.ensures j })
+    ∙ (λ j. record { answer = done; params = c.flat.ensures j })
     ∙ sampled-none (entry a.luma.now) (entry a.chroma.now) a.w a.direction a.d (sym c.count_of-n.ensures ∙ c.if-n-eq0.true)
 
 pub returns-in_default : goal.returns-in_default

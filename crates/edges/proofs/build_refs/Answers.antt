@@ -8,11 +8,10 @@ use Prim.Native.Nat.{ℕ}
 use lib.Ieee.{Float}
 use lib.IntN.{ℤ, pos}
 use Rattle.block_spec.specs.declared.spec.IntraRefSpec.{IntraRefSpec}
-use Rattle.numbers.specs.declared.answer.Answer.{Answer}
 use Rattle.edges.specs.Rules.{refs_answer}
 use lib.ListN.{length}
 use mir.Syntax.{w32}
-use Rattle.numbers.specs.Answer.{is_done}
+use Rattle.numbers.specs.Answer.{is_done, Answer}
 use Rattle.numbers.proofs.Named.{done-is}
 use Rattle.signed.proofs.Bound.{back}
 use Rattle.lists.proofs.Fill.{filled_none, filled_more}

@@ -6,8 +6,7 @@ use Prim.Native.Nat.{ℕ, ◌*◌, ◌≤◌}
 use native.Mathlib.Nat.{mul-le-mul}
 use native.Mathlib.Omega.{arith}
 use lib.ListN.{length}
-use Rattle.numbers.specs.Answer.{is_done}
-use Rattle.numbers.specs.declared.answer.Answer.TheVariants.{Done}
+use Rattle.numbers.specs.Answer.{is_done, done}
 use Rattle.numbers.proofs.Named.{done-is}
 use Rattle.refusals.specs.Ladder.{ladder}
 use Rattle.block_image.specs.Rules.{is_whole}
@@ -50,7 +49,7 @@ module _ (c : At-Else-not-is_done) where
   yes : is_done c.blocks_answer-tested.result.answer ≡ true
   yes = sym c.is_done.ensures ∙ not-false c.is_done.result c.if-not-is_done.false-raw
 
-  done : ladder (blocks_rules t2.args.f t2.args.bytes.now (blocks_in t2.args.bytes.now)) ≡ Done
+  done : ladder (blocks_rules t2.args.f t2.args.bytes.now (blocks_in t2.args.bytes.now)) ≡ done
   done = sym c.blocks_answer-tested.ensures.0 ∙ done-is _ yes
 
   count-is : rows ≡ rows_of t2.args.f t2.args.bytes.now

@@ -4,7 +4,7 @@ use mathlib.Core.Bool.{true}
 use mathlib.Core.List.{[], ◌∷◌}
 use Prim.Native.Nat.{ℕ}
 use Rattle.block_spec.specs.declared.spec.IntraRefSpec.{IntraRefSpec}
-use Rattle.numbers.specs.declared.answer.Answer.TheVariants.{NoNeighbour, BadBase}
+use Rattle.numbers.specs.declared.answer.Refusal.TheVariants.{NoNeighbour, BadBase}
 use Rattle.refusals.specs.Ladder.{◌else◌, ladder}
 use Rattle.refusals.proofs.Ladder.{kept, broken}
 use Rattle.block_spec.specs.Rules.{is_inside, has_neighbours, is_base, place_rules}

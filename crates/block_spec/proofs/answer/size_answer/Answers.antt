@@ -5,7 +5,7 @@ use mathlib.Core.Bool.{true}
 use Rattle.numbers.specs.Size.{is_size}
 use Rattle.block_spec.specs.declared.spec.IntraRefSpec.{IntraRefSpec}
 use Rattle.numbers.specs.Depth.{is_depth}
-use Rattle.numbers.specs.declared.answer.Answer.TheVariants.{BadDepth}
+use Rattle.numbers.specs.declared.answer.Refusal.TheVariants.{BadDepth}
 use Rattle.numbers.proofs.Agree.{size-yes, size-no, depth-yes, depth-no}
 use Rattle.refusals.specs.Ladder.{◌else◌, ladder}
 use Rattle.refusals.proofs.Ladder.{kept, broken}

@@ -19,7 +19,7 @@ pub returns-then-not-is_done : goal.returns-then-not-is_done
 returns-then-not-is_done c =
     let a = c.size_answer-sizes in
     a.ensures
-    ∙ segment-broken (sizes c.args.plane.now c.args.width c.args.height c.args.s c.args.n) (places c.args.plane.now c.args.width c.args.height c.args.s c.args.n ++ late c.args.plane.now c.args.width c.args.height c.args.s c.args.n) tt
+    ∙ segment-broken (sizes c.args.plane.now c.args.width c.args.height c.args.s c.args.n) (places c.args.plane.now c.args.width c.args.height c.args.s c.args.n ++ late c.args.plane.now c.args.width c.args.height c.args.s c.args.n)
     (ap is_done (sym a.ensures) ∙ sym c.is_done.ensures ∙ c.if-not-is_done.true)
     (one c.args.plane.now c.args.width c.args.height c.args.s c.args.n (sym c.is_plane.ensures ∙ c.if-not-is_plane.false))
 
@@ -31,7 +31,7 @@ pub returns-then-not-is_done-2 : goal.returns-then-not-is_done-2
 returns-then-not-is_done-2 c =
     let a = c.place_answer-places in
     a.ensures
-    ∙ segment-broken (places c.args.plane.now c.args.width c.args.height c.args.s c.args.n) (late c.args.plane.now c.args.width c.args.height c.args.s c.args.n) tt
+    ∙ segment-broken (places c.args.plane.now c.args.width c.args.height c.args.s c.args.n) (late c.args.plane.now c.args.width c.args.height c.args.s c.args.n)
     (ap is_done (sym a.ensures) ∙ sym c.is_done-2.ensures ∙ c.if-not-is_done-2.true)
     (two c.args.plane.now c.args.width c.args.height c.args.s c.args.n (sym c.is_plane.ensures ∙ c.if-not-is_plane.false) (ap is_done (sym c.size_answer-sizes.ensures) ∙ sym c.is_done.ensures ∙ c.if-not-is_done.false))
 

@@ -18,7 +18,7 @@ pub returns-then-not-is_done : goal.returns-then-not-is_done
 returns-then-not-is_done c =
     let a = sizes-are c.args.width c.args.height c.args.n c.args.row.now _ _ c.spec_of-s.ensures c.size_answer-sizes.ensures in
     let no = tested _ _ _ _ a c.is_done.ensures c.if-not-is_done.true in
-    reads-no _ _ _ _ _ (a ∙ segment-broken (sizes c.args.width c.args.height c.args.n c.args.row.now) (late c.args.width c.args.height c.args.n c.args.row.now) tt no (none c.args.width c.args.height c.args.n c.args.row.now)) (ap is_done a ∙ no)
+    reads-no _ _ _ _ _ (a ∙ segment-broken (sizes c.args.width c.args.height c.args.n c.args.row.now) (late c.args.width c.args.height c.args.n c.args.row.now) no (none c.args.width c.args.height c.args.n c.args.row.now)) (ap is_done a ∙ no)
 
 pub returns-in_default : goal.returns-in_default
 unfolding is_mode is_done
@@ -31,7 +31,7 @@ pub place_answer-places-requires : goal.place_answer-places-requires
 place_answer-places-requires c =
     let a = sizes-are c.args.width c.args.height c.args.n c.args.row.now _ _ c.spec_of-s.ensures c.size_answer-sizes.ensures in
     let k : is_done (ladder (sizes c.args.width c.args.height c.args.n c.args.row.now)) ≡ true = tested _ _ _ _ a c.is_done.ensures c.if-not-is_done.false in
-    ap (λ s. is_depth s.d) c.spec_of-s.ensures ∙ (all_of (sizes c.args.width c.args.height c.args.n c.args.row.now) tt k).1.0
+    ap (λ s. is_depth s.d) c.spec_of-s.ensures ∙ (all_of (sizes c.args.width c.args.height c.args.n c.args.row.now) k).1.0
 
 pub returns-then-not-is_done-2 : goal.returns-then-not-is_done-2
 returns-then-not-is_done-2 c =
@@ -39,7 +39,7 @@ returns-then-not-is_done-2 c =
     let k : is_done (ladder (sizes c.args.width c.args.height c.args.n c.args.row.now)) ≡ true = tested _ _ _ _ a c.is_done.ensures c.if-not-is_done.false in
     let p = places-are c.args.width c.args.height c.args.n c.args.row.now _ _ c.spec_of-s.ensures c.place_answer-places.ensures in
     let no = tested _ _ _ _ p c.is_done-2.ensures c.if-not-is_done-2.true in
-    reads-no _ _ _ _ _ (p ∙ segment-broken (places c.args.width c.args.height c.args.n c.args.row.now) (last c.args.width c.args.height c.args.n c.args.row.now) tt no (three c.args.width c.args.height c.args.n c.args.row.now k _ (sym c.mode_of.ensures ∙ c.in-Is.is))) (ap is_done p ∙ no)
+    reads-no _ _ _ _ _ (p ∙ segment-broken (places c.args.width c.args.height c.args.n c.args.row.now) (last c.args.width c.args.height c.args.n c.args.row.now) no (three c.args.width c.args.height c.args.n c.args.row.now k _ (sym c.mode_of.ensures ∙ c.in-Is.is))) (ap is_done p ∙ no)
 
 pub returns-then-not-has_differences : goal.returns-then-not-has_differences
 unfolding is_done

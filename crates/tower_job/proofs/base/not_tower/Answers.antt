@@ -3,7 +3,7 @@ use mathlib.Core.Path.{refl, sym, ◌∙◌, ap}
 use mathlib.Core.Bool.{false}
 use mathlib.Core.List.{[], ◌∷◌}
 use Rattle.numbers.specs.Answer.{is_done}
-use Rattle.numbers.specs.declared.answer.Answer.TheVariants.{BadMode}
+use Rattle.numbers.specs.declared.answer.Refusal.TheVariants.{BadMode}
 use Rattle.refusals.specs.Ladder.{◌else◌, ladder}
 use Rattle.refusals.proofs.Ladder.{segment-kept, segment-broken}
 use Rattle.block_spec.specs.Rules.{size_rules}
@@ -15,10 +15,10 @@ pub returns-then-not-is_done : goal.returns-then-not-is_done
 returns-then-not-is_done c =
     let sizes = c.size_answer-sizes.ensures ∙ ap (λ s. ladder (size_rules s)) c.spec_of.ensures in
     let no = ap is_done (sym sizes) ∙ sym c.is_done.ensures ∙ c.if-not-is_done.true in
-    sizes ∙ segment-broken (size_rules (spec_of (base_row c.args.row.now))) (false else BadMode ∷ []) tt no refl
+    sizes ∙ segment-broken (size_rules (spec_of (base_row c.args.row.now))) (false else BadMode ∷ []) no refl
 
 pub returns : goal.returns
 returns c =
     let sizes = c.size_answer-sizes.ensures ∙ ap (λ s. ladder (size_rules s)) c.spec_of.ensures in
     let yes = ap is_done (sym sizes) ∙ sym c.is_done.ensures ∙ c.if-not-is_done.false in
-    sym (segment-kept (size_rules (spec_of (base_row c.args.row.now))) (false else BadMode ∷ []) tt yes refl)
+    sym (segment-kept (size_rules (spec_of (base_row c.args.row.now))) (false else BadMode ∷ []) yes refl)

@@ -5,7 +5,7 @@ use Prim.Native.Nat.{ℕ}
 use mathlib.Core.List.{◌∷◌}
 use Rattle.numbers.specs.Answer.{is_done}
 use Rattle.numbers.specs.Depth.{is_depth}
-use Rattle.numbers.specs.declared.answer.Answer.TheVariants.{BadMode}
+use Rattle.numbers.specs.declared.answer.Refusal.TheVariants.{BadMode}
 use Rattle.numbers.proofs.Agree.{depth-yes, depth-no}
 use Rattle.numbers.proofs.Named.{done-is}
 use Rattle.refusals.specs.Ladder.{◌else◌, ladder}

@@ -6,7 +6,7 @@ use Prim.Native.Nat.{ℕ}
 use Rattle.colour_words.specs.declared.ColourWords.{ColourWords}
 use Rattle.tower_job.specs.Tests.{is_in_planes}
 use Rattle.numbers.specs.Colour.{is_colour}
-use Rattle.numbers.specs.declared.answer.Answer.TheVariants.{BadColourDirection, BadReference, BadLines}
+use Rattle.numbers.specs.declared.answer.Refusal.TheVariants.{BadColourDirection, BadReference, BadLines}
 use Rattle.numbers.proofs.Colours.{colour-yes, colour-no}
 use Rattle.refusals.specs.Ladder.{◌else◌, ladder}
 use Rattle.refusals.proofs.Ladder.{kept, broken}

@@ -7,9 +7,8 @@ use lib.Ieee.{Float}
 use lib.ListN.{length}
 use Rattle.block_spec.specs.declared.spec.IntraRefSpec.{IntraRefSpec}
 use Rattle.edges.specs.declared.answer.Lengths.{Lengths}
-use Rattle.numbers.specs.Answer.{is_done}
-use Rattle.numbers.specs.declared.answer.Answer.{Answer}
-use Rattle.numbers.specs.declared.answer.Answer.TheVariants.{ShortList}
+use Rattle.numbers.specs.Answer.{is_done, Answer}
+use Rattle.numbers.specs.declared.answer.Refusal.TheVariants.{ShortList}
 use Rattle.refusals.specs.Ladder.{Rule, ◌else◌, ladder}
 use Rattle.refusals.proofs.Ladder.{AllKept, kept, all_of, segment-kept}
 use Rattle.block_spec.specs.Rules.{is_plane, size_rules, place_rules}
@@ -42,17 +41,17 @@ module _ (plane : List Float) (W H : ℕ) (s : IntraRefSpec) (n : Lengths) where
 
     module _ (sizes-done : is_done (ladder sizes) ≡ true) where
       pub sizes-kept : AllKept sizes
-      sizes-kept = all_of sizes tt sizes-done
+      sizes-kept = all_of sizes sizes-done
 
       pub two : answer ≡ ladder (places ++ late)
-      two = segment-kept sizes (places ++ late) tt sizes-done one
+      two = segment-kept sizes (places ++ late) sizes-done one
 
       module _ (places-done : is_done (ladder places) ≡ true) where
         pub three : answer ≡ ladder late
-        three = segment-kept places late tt places-done two
+        three = segment-kept places late places-done two
 
         pub place : Placed (length plane) W s
-        place = placed _ _ H _ in_plane (standing _ _ _ sizes-kept (all_of places tt places-done))
+        place = placed _ _ H _ in_plane (standing _ _ _ sizes-kept (all_of places places-done))
 
         pub four : outputs_long n.above n.left n.corner ≡ true → answer ≡ ladder last
         four e = kept _ _ _ _ e three

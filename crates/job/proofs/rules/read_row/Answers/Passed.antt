@@ -5,10 +5,9 @@ use Prim.Native.Nat.{ℕ}
 use Rattle.block_spec.specs.declared.spec.IntraRefSpec.{IntraRefSpec}
 use Rattle.row_words.specs.declared.mode.Mode.{Mode}
 use mathlib.Core.List.{List, [], ◌∷◌, ◌++◌}
-use Rattle.numbers.specs.Answer.{is_done}
+use Rattle.numbers.specs.Answer.{is_done, Answer}
 use Rattle.row_words.specs.Mode.{is_found}
-use Rattle.numbers.specs.declared.answer.Answer.{Answer}
-use Rattle.numbers.specs.declared.answer.Answer.TheVariants.{BadMode, NoDifferences}
+use Rattle.numbers.specs.declared.answer.Refusal.TheVariants.{BadMode, NoDifferences}
 use Rattle.row_words.specs.declared.mode.FoundMode.TheVariants.{Is}
 use Rattle.refusals.specs.Ladder.{Rule, ◌else◌, ladder}
 use Rattle.refusals.proofs.Ladder.{kept, segment-kept}
@@ -47,7 +46,7 @@ module _ (W H n : ℕ) (row : List ℕ) where
 
   module _ (kept-sizes : is_done (ladder sizes) ≡ true) where
     pub two : answer ≡ ladder late
-    two = segment-kept sizes late tt kept-sizes none
+    two = segment-kept sizes late kept-sizes none
 
     module _ (m : Mode) (mode-is : row_mode row ≡ Is m) where
       pub three : answer ≡ ladder (places ++ last)
@@ -55,7 +54,7 @@ module _ (W H n : ℕ) (row : List ℕ) where
       three = kept _ _ _ _ (ap is_found mode-is) two
 
       pub six : is_done (ladder places) ≡ true → answer ≡ ladder last
-      six e = segment-kept places last tt e three
+      six e = segment-kept places last e three
 
 -- what a test of an answer tells of it
 pub tested : (a l : Answer) (d b : Bool) → a ≡ l → d ≡ is_done a → d ≡ b → is_done l ≡ b
