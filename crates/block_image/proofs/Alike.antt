@@ -2,6 +2,7 @@
 use mathlib.Core.Path.{◌≡◌, refl, ◌∙◌, ap}
 use mathlib.Core.Bool.{Bool, true, cond, ◌&&◌}
 use mathlib.Core.List.{List}
+use Rattle.std.specs.Prelude.{Err}
 use Prim.Native.Nat.{ℕ, zero, suc, ◌+◌, ◌-◌, ◌*◌, ◌%◌, ◌^◌, ◌<◌, ◌≤◌}
 use native.Mathlib.Omega.{arith}
 use lib.Dec.{eqb}
@@ -19,7 +20,7 @@ use Rattle.numbers.specs.Answer.{done, Answer}
 
 -- the answer, by what the four tests say
 abbrev by : Bool → Bool → Bool → Bool → Answer
-by check index used zeros = cond check (cond index (cond used (cond zeros done NotZero) BadUsed) OutOfTurn) BadCheck
+by check index used zeros = cond check (cond index (cond used (cond zeros done (Err NotZero)) (Err BadUsed)) (Err OutOfTurn)) (Err BadCheck)
 
 pub block-done : (F : Format) (bytes : List ℕ) (k : ℕ) → is_block F bytes k ≡ true
     → block_answer F (eqb (k + 1) (blocks_in bytes)) k (block_bytes bytes k) ≡ done

@@ -9,8 +9,9 @@ use native.Mathlib.Nat.{le_of_lt}
 use native.Mathlib.Omega.{arith}
 use lib.Dec.{eqb}
 use lib.ListN.{length, get_or}
+use Rattle.std.specs.Prelude.{Err}
 use Rattle.signed.proofs.Naturals.{either}
-use Rattle.numbers.specs.Answer.{is_done, done}
+use Rattle.numbers.specs.Answer.{done}
 use Rattle.numbers.specs.declared.answer.Refusal.TheVariants.{BadCheck}
 use Rattle.refusals.specs.Ladder.{ladder}
 use Rattle.refusals.proofs.Ladder.{broken}
@@ -49,19 +50,19 @@ module _ (F : Format) (fit : Fits F) (bytes bytes' : List ℕ) (small : (i : ℕ
 
   -- a file whose block k is the first to have a wrong check
   check-refused : (k : ℕ) → k < n → ((i : ℕ) → i < 512 * k → get_or bytes i 0 ≡ get_or bytes' i 0) → is_check (block_bytes bytes' k) ≡ false
-      → (room slots : ℕ) → file_answer F bytes' room slots ≡ BadCheck
-  unfolding block_answer is_done
+      → (room slots : ℕ) → file_answer F bytes' room slots ≡ Err BadCheck
+  unfolding block_answer
   check-refused k l same wrong room slots =
-      let here : ladder (blocks_rules F bytes' (suc k)) ≡ BadCheck =
+      let here : ladder (blocks_rules F bytes' (suc k)) ≡ Err BadCheck =
       blocks-next F bytes' k (before k (le_of_lt l) same) ∙ sym (broken _ _ _ _ wrong refl) in
-      let all : ladder (blocks_rules F bytes' (blocks_in bytes')) ≡ BadCheck =
-      blocks-stay F bytes' (suc k) (blocks_in bytes') (omega (arith, n-is)) (ap is_done here) ∙ here in
-      sym (block_refused F bytes' room slots (ap (is_whole F) (sym size) ∙ accepted.whole) (ap is_done all)) ∙ all
+      let all : ladder (blocks_rules F bytes' (blocks_in bytes')) ≡ Err BadCheck =
+      blocks-stay F bytes' (suc k) (blocks_in bytes') (omega (arith, n-is)) here in
+      block_refused F bytes' room slots (ap (is_whole F) (sym size) ∙ accepted.whole) all
 
   -- word j of block k is changed, and nothing else
   pub one-word-refused : (k j : ℕ) → k < n → j < 128 → (word32 (block_bytes bytes k) (4 * j) ≡ word32 (block_bytes bytes' k) (4 * j) → ⊥)
       → ((i : ℕ) → (i < 512 * k + 4 * j) ⊎ (512 * k + 4 * j + 4 ≤ i) → get_or bytes i 0 ≡ get_or bytes' i 0)
-      → (room slots : ℕ) → file_answer F bytes' room slots ≡ BadCheck
+      → (room slots : ℕ) → file_answer F bytes' room slots ≡ Err BadCheck
   one-word-refused k j l m differs same =
       let at = block_bytes bytes k in
       let at' = block_bytes bytes' k in
@@ -75,7 +76,7 @@ module _ (F : Format) (fit : Fits F) (bytes bytes' : List ℕ) (small : (i : ℕ
 
   -- byte i is changed, and nothing else
   pub one-byte-refused : (i : ℕ) → i < 512 * n → (get_or bytes i 0 ≡ get_or bytes' i 0 → ⊥)
-      → ((b : ℕ) → (b ≡ i → ⊥) → get_or bytes b 0 ≡ get_or bytes' b 0) → (room slots : ℕ) → file_answer F bytes' room slots ≡ BadCheck
+      → ((b : ℕ) → (b ≡ i → ⊥) → get_or bytes b 0 ≡ get_or bytes' b 0) → (room slots : ℕ) → file_answer F bytes' room slots ≡ Err BadCheck
   one-byte-refused i l differs same =
       let k = i / 512 in
       let j = i % 512 / 4 in

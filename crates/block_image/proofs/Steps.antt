@@ -1,18 +1,19 @@
 -- What reading answers, step by step: 40, the blocks' own answer, 45, or done. Assumes nothing.
-use mathlib.Core.Path.{◌≡◌, refl, ap}
+use mathlib.Core.Path.{◌≡◌, refl, ◌∙◌}
 use mathlib.Core.Bool.{true, false}
 use mathlib.Core.List.{List, [], ◌∷◌, ◌++◌}
 use Prim.Native.Nat.{ℕ, ◌*◌}
 use lib.ListN.{length}
-use Rattle.numbers.specs.Answer.{is_done, done}
+use Rattle.std.specs.Prelude.{Err}
+use Rattle.numbers.specs.Answer.{done}
+use Rattle.numbers.specs.declared.answer.Refusal.{Refusal}
 use Rattle.numbers.specs.declared.answer.Refusal.TheVariants.{NotBlocks, NoRoom}
 use Rattle.refusals.specs.Ladder.{Rule, ◌else◌, ladder}
-use Rattle.refusals.proofs.Ladder.{kept, broken, segment-kept, segment-broken}
+use Rattle.refusals.proofs.Ladder.{kept, broken, ladder-ok, ladder-err}
 use Rattle.block_image.specs.Rules.{is_whole}
 use Rattle.block_image.specs.Taken.{blocks_in, rows_of}
 use Rattle.block_image.specs.Refusals.{blocks_rules, has_room, file_answer, file_rules}
 use Rattle.block_image.specs.declared.format.Format.{Format}
-use Rattle.block_image.proofs.Walk.{refuses-all}
 
 module _ (F : Format) (bytes : List ℕ) (room slots : ℕ) where
   abbrev blocks : List Rule
@@ -21,7 +22,7 @@ module _ (F : Format) (bytes : List ℕ) (room slots : ℕ) where
   abbrev last : List Rule
   last = has_room (rows_of F bytes * F.words) room slots else NoRoom ∷ []
 
-  pub not-blocks : is_whole F (length bytes) ≡ false → NotBlocks ≡ file_answer F bytes room slots
+  pub not-blocks : is_whole F (length bytes) ≡ false → Err NotBlocks ≡ file_answer F bytes room slots
   unfolding file_answer
   not-blocks e = broken (ladder (file_rules F bytes room slots)) _ _ _ e refl
 
@@ -29,16 +30,15 @@ module _ (F : Format) (bytes : List ℕ) (room slots : ℕ) where
     first-kept : ladder (file_rules F bytes room slots) ≡ ladder (blocks ++ last)
     first-kept = kept _ _ _ _ whole refl
 
-    pub block_refused : is_done (ladder blocks) ≡ false → ladder blocks ≡ file_answer F bytes room slots
+    pub block_refused : {r : Refusal} → ladder blocks ≡ Err r → file_answer F bytes room slots ≡ Err r
     unfolding file_answer
-    block_refused e = segment-broken blocks last (refuses-all F bytes (blocks_in bytes)) e first-kept
+    block_refused e = first-kept ∙ ladder-err blocks last _ e
 
-    module _ (done : ladder blocks ≡ done) where
+    module _ (passed : ladder blocks ≡ done) where
       blocks-kept : ladder (file_rules F bytes room slots) ≡ ladder last
-      unfolding is_done
-      blocks-kept = segment-kept blocks last (refuses-all F bytes (blocks_in bytes)) (ap is_done done) first-kept
+      blocks-kept = first-kept ∙ ladder-ok blocks last tt passed
 
-      pub no_room : has_room (rows_of F bytes * F.words) room slots ≡ false → NoRoom ≡ file_answer F bytes room slots
+      pub no_room : has_room (rows_of F bytes * F.words) room slots ≡ false → Err NoRoom ≡ file_answer F bytes room slots
       unfolding file_answer
       no_room e = broken _ _ _ _ e blocks-kept
 

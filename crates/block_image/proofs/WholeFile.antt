@@ -14,14 +14,13 @@ use Rattle.signed.proofs.Naturals.{either}
 use Rattle.numbers.specs.Limits.{most_jobs}
 use Rattle.numbers.specs.declared.answer.Refusal.TheVariants.{NoRoom}
 use Rattle.refusals.specs.Ladder.{Rule, ◌else◌, ladder}
-use Rattle.refusals.proofs.Ladder.{AllKept, all-kept, kept_append, refuses-append}
+use Rattle.refusals.proofs.Ladder.{AllKept, all-kept, kept_append}
 use Rattle.block_image.specs.Rules.{block_bytes, is_whole}
 use Rattle.block_image.specs.Taken.{blocks_in, WholeFile, rows_of}
 use Rattle.block_image.specs.declared.format.Format.{Format}
 use Rattle.block_image.proofs.Block.{shown}
 use Rattle.block_image.proofs.RowsOf.{rows_none, rows-some}
 use Rattle.block_image.specs.Refusals.{block_rules, blocks_rules, has_room, file_rules, file_answer}
-use Rattle.block_image.proofs.Walk.{refuses-all}
 use Rattle.numbers.specs.Answer.{done}
 
 pub room-parts : (need room slots : ℕ) → has_room need room slots ≡ true → (need ≤ room) × (1 ≤ slots)
@@ -47,7 +46,7 @@ module _ (F : Format) (bytes : List ℕ) where
       }
 
   pub accepted-of : is_whole F (length bytes) ≡ true → ladder (blocks_rules F bytes (blocks_in bytes)) ≡ done → WholeFile F bytes
-  accepted-of w e = accepted-by w (all-kept (blocks_rules F bytes (blocks_in bytes)) (refuses-all F bytes (blocks_in bytes)) e)
+  accepted-of w e = accepted-by w (all-kept (blocks_rules F bytes (blocks_in bytes)) e)
 
   -- a reading that is done
   pub read_done : (room slots : ℕ) → file_answer F bytes room slots ≡ done → WholeFile F bytes × (has_room (rows_of F bytes * F.words) room slots ≡ true)
@@ -55,7 +54,7 @@ module _ (F : Format) (bytes : List ℕ) where
   read_done room slots e =
       let rules = blocks_rules F bytes (blocks_in bytes) in
       let last = has_room (rows_of F bytes * F.words) room slots else NoRoom ∷ [] in
-      let all = all-kept (file_rules F bytes room slots) (refuses-append rules last (refuses-all F bytes (blocks_in bytes)) tt) e in
+      let all = all-kept (file_rules F bytes room slots) e in
       let two = kept_append rules last all.1 in
       (accepted-by all.0 two.0, two.1.0)
 
