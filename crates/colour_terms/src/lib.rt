@@ -8,16 +8,15 @@ ghost use Rattle.numbers.specs.Depth.{bits_of, depth_of};
 ghost use Rattle.signed.specs.Range.{inside};
 ghost use Rattle.colour_terms.specs.Terms.{eighth, middle, squared};
 
+use numbers::answer::Refusal;
 use numbers::depth::Depth;
 
 // The depth whose D is d.
-pub fn depth_of(d: u32) -> FoundDepth
+pub fn depth_of(d: u32) -> Result<Depth, Refusal>
     ensures { result ≡ depth_of d }
 {
-    if (u16::MAX as u32) < d {
-        return FoundDepth::NoDepth;
-    }
-    Depth::of(d as u16)
+    let word = u16::try_from(d).map_err(|_| Refusal::BadDepth)?;
+    Depth::try_from(word)
 }
 
 // A luma value without its last three binary digits: "luma >> 3".
