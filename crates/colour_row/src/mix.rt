@@ -4,7 +4,6 @@ ghost use Rattle.numbers.specs.Depth.{is_depth, most};
 ghost use Rattle.colour_row.specs.Mixed.{MixReady, MixOf};
 
 use fixed_product::product;
-use numbers::depth::FoundDepth;
 
 // bits is D, mid 2^(D-1) and max M. third is what the third term gives. half0 and half1 round the products by p0 and p1. short says that every
 // second factor of the block is below both limits, so that the short product serves.
@@ -26,10 +25,7 @@ fn max_of(d: u32) -> i32
     requires { is_depth d ≡ true }
     ensures { result ≡ pos (most d) }
 {
-    let FoundDepth::Is(depth) = colour_terms::depth_of(d) else {
-        return 0;
-    };
-    depth.max()
+    colour_terms::depth_of(d).unwrap().max()
 }
 
 // Whether m is below both limits.

@@ -1,21 +1,9 @@
 -- `max_of` meets its contract: the depth is found, since the number is one. Assumes nothing.
-use borrow.Author.Rules.{sfits_of}
-use mathlib.Core.Path.{sym, ◌∙◌, ap}
-use mathlib.Core.Bool.{true≢false}
-use lib.IntN.{pos}
-use mir.Syntax.{w32}
-use Rattle.numbers.specs.Depth.{most}
-use Rattle.numbers.proofs.Agree.{depth-no, depth-back}
-use Rattle.signed.proofs.Bound.{back}
+use mathlib.Core.Path.{refl}
+use Rattle.numbers.specs.Depth.{depth_of}
+use Rattle.numbers.proofs.Agree.{depth-all}
+use Rattle.std.specs.Result.{IsOk}
 use Rattle.colour_row.proofs.mix.max_of.Goals as goal
 
-pub returns-in_default : goal.returns-in_default
-returns-in_default c =
-    let no = depth-no c.args.d (sym c.depth_of.ensures ∙ c.in_default.is) in
-    absurd (true≢false (sym c.requires ∙ no))
-
-pub returns : goal.returns
-returns c =
-    back w32 {z = c.max.result} (sfits_of c.max.type_inv)
-    ∙ c.max.ensures
-    ∙ ap (λ n. pos (most n)) (depth-back _ _ (sym c.depth_of.ensures ∙ c.in-Is.is))
+pub unwrap-requires : goal.unwrap-requires
+unwrap-requires c = rw c.depth_of.ensures (depth-all (λ n. IsOk (depth_of n)) c.args.d (refl, (refl, (refl, tt))) c.requires)
