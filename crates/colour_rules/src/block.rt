@@ -1,6 +1,6 @@
 // Where a block stands in its reference window, which of its neighbours are there, and its direction and depth (document 01, Colour parameters).
-ghost use Rattle.std.specs.Prelude.{◌≡◌, true};
-ghost use Rattle.numbers.specs.Colour.{the_colour, is_colour};
+ghost use Rattle.std.specs.Prelude.{◌≡◌};
+ghost use Rattle.numbers.specs.Colour.{the_colour};
 
 use numbers::colour::ColourDirection;
 
@@ -22,16 +22,6 @@ pub struct Block {
 impl Block {
     // "width or height not in 1..128"
     pub const LARGEST_SIDE: usize = 128;
-
-    // 10: whether its direction has a name.
-    pub fn has_colour(self) -> bool
-        ensures { result ≡ is_colour self.direction }
-    {
-        let FoundColour::Is(_) = ColourDirection::of(self.direction) else {
-            return false;
-        };
-        true
-    }
 
     // Its direction by its name.
     pub fn colour(self) -> ColourDirection

@@ -11,18 +11,14 @@ ghost use Rattle.colour_rules.specs.Rules.{predict_answer};
 use crate::block::Block;
 use colour_terms::reference;
 use numbers::answer::{Answer, Refusal};
-use numbers::depth::FoundDepth;
+use numbers::colour::ColourDirection;
 
 // What a call answers, whose output has n entries.
 pub fn refused(luma: &[i32], b: Block, n: usize) -> Answer
     ensures { result ≡ predict_answer luma.now b n }
 {
-    let FoundDepth::Is(depth) = colour_terms::depth_of(b.d) else {
-        return Err(Refusal::BadDepth);
-    };
-    if !b.has_colour() {
-        return Err(Refusal::BadColourDirection);
-    }
+    let depth = colour_terms::depth_of(b.d)?;
+    ColourDirection::try_from(b.direction)?;
     if !reference::is_reference(b.ref_width, b.ref_height, luma.len()) {
         return Err(Refusal::BadReference);
     }

@@ -1,49 +1,129 @@
 -- `refused` meets its contract: each test is the ladder's, in its order. Assumes nothing.
-use borrow.Author.Rules.{rules}
-use borrow.Author.Tests.{not-true, not-false, lt-leb}
+use borrow.Author.Tests.{lt-leb, le-leb}
 use mathlib.Core.Path.{sym, ◌∙◌}
 use native.Mathlib.Nat.{mul-le-mul}
 use native.Mathlib.Omega.{arith}
-use Rattle.numbers.proofs.Agree.{depth-no}
-use Rattle.refusals.proofs.Ladder.{broken, kept}
-use Rattle.colour_rules.proofs.refused.Answers.Passed.{none, one, two, three, four, five, six, seven, c1, c2, c3, c4, c5, c6, depth, colour, lines, place, max-is}
+use lib.ListN.{length}
+use Rattle.std.proofs.lemmas.Grind.{common_steps}
+use Rattle.numbers.proofs.Agree.{depth-yes, depth-else}
+use Rattle.numbers.proofs.Colours.{colour-yes, colour-else}
+use Rattle.numbers.proofs.Look.{passed_on}
+use Rattle.colour_rules.specs.Rules.{predict_answer}
+use Rattle.colour_rules.proofs.Granted.{placed}
 use Rattle.colour_rules.proofs.refused.Goals as goal
-mod Passed
 
-pub returns-in_default : goal.returns-in_default
-returns-in_default c = broken _ _ _ _ (depth-no _ (sym c.depth_of.ensures ∙ c.in_default.is)) (none c.before.before)
+pub returns-in_err-depth : goal.returns-in_err-depth
+unfolding predict_answer
+returns-in_err-depth c = passed_on _ c.from_residual.ensures.1 ∙ depth-else _ _ c.in_err-depth.ensures
 
-pub returns-then-not-has_colour : goal.returns-then-not-has_colour
-returns-then-not-has_colour c = let r = c.has_colour in broken _ _ _ _ (sym r.ensures ∙ not-true r.result c.if-not-has_colour.true-raw) (one c.before.before)
+pub returns-in_err-try_from : goal.returns-in_err-try_from
+unfolding predict_answer
+returns-in_err-try_from c =
+    rw (depth-yes c.args.b.d _ (sym c.in_ok-depth.ensures))
+    (passed_on _ c.from_residual-in_err-try_from.ensures.1 ∙ colour-else _ _ c.in_err-try_from.ensures)
 
 pub returns-then-not-is_reference : goal.returns-then-not-is_reference
-returns-then-not-is_reference c = let r = c.is_reference in broken _ _ _ _ (sym r.ensures ∙ not-true r.result c.if-not-is_reference.true-raw) (two c.before.before)
+unfolding predict_answer
+returns-then-not-is_reference c =
+    simp (
+      depth-yes c.args.b.d _ (sym c.in_ok-depth.ensures),
+      colour-yes c.args.b.direction _ (sym c.in_ok-try_from.ensures),
+      sym c.is_reference.ensures ∙ c.if-not-is_reference.true,
+    )
 
 pub returns-then-not-is_lines : goal.returns-then-not-is_lines
-returns-then-not-is_lines c = let r = c.is_lines in broken _ _ _ _ (sym r.ensures ∙ not-true r.result c.if-not-is_lines.true-raw) (three c.before.before)
+unfolding predict_answer
+returns-then-not-is_lines c =
+    simp (
+      depth-yes c.args.b.d _ (sym c.in_ok-depth.ensures),
+      colour-yes c.args.b.direction _ (sym c.in_ok-try_from.ensures),
+      sym c.is_reference.ensures ∙ c.if-not-is_reference.false,
+      sym c.is_lines.ensures ∙ c.if-not-is_lines.true,
+    )
 
 pub is_placed-requires : goal.is_placed-requires
-is_placed-requires c = lines c
+is_placed-requires c = sym c.is_lines.ensures ∙ c.if-not-is_lines.false
 
 pub returns-then-not-is_placed : goal.returns-then-not-is_placed
-returns-then-not-is_placed c = let r = c.is_placed in broken _ _ _ _ (sym r.ensures ∙ not-true r.result c.if-not-is_placed.true-raw) (four c.before.before)
+unfolding predict_answer
+returns-then-not-is_placed c =
+    simp (
+      depth-yes c.args.b.d _ (sym c.in_ok-depth.ensures),
+      colour-yes c.args.b.direction _ (sym c.in_ok-try_from.ensures),
+      sym c.is_reference.ensures ∙ c.if-not-is_reference.false,
+      sym c.is_lines.ensures ∙ c.if-not-is_lines.false,
+      sym c.is_placed.ensures ∙ c.if-not-is_placed.true,
+    )
 
 pub returns-then-not-has_neighbours : goal.returns-then-not-has_neighbours
-returns-then-not-has_neighbours c = let r = c.has_neighbours in broken _ _ _ _ (sym r.ensures ∙ not-true r.result c.if-not-has_neighbours.true-raw) (five c.before.before)
+unfolding predict_answer
+returns-then-not-has_neighbours c =
+    simp (
+      depth-yes c.args.b.d _ (sym c.in_ok-depth.ensures),
+      colour-yes c.args.b.direction _ (sym c.in_ok-try_from.ensures),
+      sym c.is_reference.ensures ∙ c.if-not-is_reference.false,
+      sym c.is_lines.ensures ∙ c.if-not-is_lines.false,
+      sym c.is_placed.ensures ∙ c.if-not-is_placed.false,
+      sym c.has_neighbours.ensures ∙ c.if-not-has_neighbours.true,
+    )
 
 pub overflow_mul-b : goal.overflow_mul-b
-overflow_mul-b c = let g = place c.before in omega (arith, mul-le-mul g.wide.1 g.high.1)
+overflow_mul-b c =
+    let g =
+    placed c.args.b (length c.args.luma.now)
+    (sym c.is_reference.ensures ∙ c.if-not-is_reference.false)
+    (sym c.is_lines.ensures ∙ c.if-not-is_lines.false)
+    (sym c.is_placed.ensures ∙ c.if-not-is_placed.false)
+    (sym c.has_neighbours.ensures ∙ c.if-not-has_neighbours.false) in
+    omega (arith, mul-le-mul g.wide.1 g.high.1)
 
 pub returns-then-n-b : goal.returns-then-n-b
-returns-then-n-b c = broken _ _ _ _ (lt-leb _ _ c.if-n-b.true) (six c.before.before)
+unfolding predict_answer
+returns-then-n-b c =
+    simp (
+      depth-yes c.args.b.d _ (sym c.in_ok-depth.ensures),
+      colour-yes c.args.b.direction _ (sym c.in_ok-try_from.ensures),
+      sym c.is_reference.ensures ∙ c.if-not-is_reference.false,
+      sym c.is_lines.ensures ∙ c.if-not-is_lines.false,
+      sym c.is_placed.ensures ∙ c.if-not-is_placed.false,
+      sym c.has_neighbours.ensures ∙ c.if-not-has_neighbours.false,
+      lt-leb _ _ c.if-n-b.true,
+    )
 
 pub luma_in_range-requires : goal.luma_in_range-requires
 luma_in_range-requires c =
-    let f = c6 c.before in
-    (depth (c1 (c2 (c3 (c4 (c5 f))))), max-is c, place f, colour (c2 (c3 (c4 (c5 f)))))
+    let g =
+    placed c.args.b (length c.args.luma.now)
+    (sym c.is_reference.ensures ∙ c.if-not-is_reference.false)
+    (sym c.is_lines.ensures ∙ c.if-not-is_lines.false)
+    (sym c.is_placed.ensures ∙ c.if-not-is_placed.false)
+    (sym c.has_neighbours.ensures ∙ c.if-not-has_neighbours.false) in
+    (depth-yes c.args.b.d _ (sym c.in_ok-depth.ensures), grind (arith, common_steps), g, colour-yes c.args.b.direction _ (sym c.in_ok-try_from.ensures))
 
 pub returns-then-not-luma_in_range : goal.returns-then-not-luma_in_range
-returns-then-not-luma_in_range c = let r = c.luma_in_range in broken _ _ _ _ (sym r.ensures ∙ not-true r.result c.if-not-luma_in_range.true-raw) (seven c.before.before.before)
+unfolding predict_answer
+returns-then-not-luma_in_range c =
+    simp (
+      depth-yes c.args.b.d _ (sym c.in_ok-depth.ensures),
+      colour-yes c.args.b.direction _ (sym c.in_ok-try_from.ensures),
+      sym c.is_reference.ensures ∙ c.if-not-is_reference.false,
+      sym c.is_lines.ensures ∙ c.if-not-is_lines.false,
+      sym c.is_placed.ensures ∙ c.if-not-is_placed.false,
+      sym c.has_neighbours.ensures ∙ c.if-not-has_neighbours.false,
+      le-leb _ _ c.if-n-b.false,
+      sym c.luma_in_range.ensures ∙ c.if-not-luma_in_range.true,
+    )
 
 pub returns : goal.returns
-returns c = let r = c.luma_in_range in sym (kept _ _ _ _ (sym r.ensures ∙ not-false r.result c.if-not-luma_in_range.false-raw) (seven c.before.before.before))
+unfolding predict_answer
+returns c =
+    simp (
+      depth-yes c.args.b.d _ (sym c.in_ok-depth.ensures),
+      colour-yes c.args.b.direction _ (sym c.in_ok-try_from.ensures),
+      sym c.is_reference.ensures ∙ c.if-not-is_reference.false,
+      sym c.is_lines.ensures ∙ c.if-not-is_lines.false,
+      sym c.is_placed.ensures ∙ c.if-not-is_placed.false,
+      sym c.has_neighbours.ensures ∙ c.if-not-has_neighbours.false,
+      le-leb _ _ c.if-n-b.false,
+      sym c.luma_in_range.ensures ∙ c.if-not-luma_in_range.false,
+    )
