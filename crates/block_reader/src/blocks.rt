@@ -1,6 +1,6 @@
 // The blocks of a file, tested one after the other: "per block in that order" (document 02, request (iv)).
-ghost use Rattle.std.specs.Prelude.{◌≡◌, true, ◌+◌, ◌≤◌, length};
-ghost use Rattle.numbers.specs.Answer.{is_done};
+ghost use Rattle.std.specs.Prelude.{◌≡◌, ◌+◌, ◌≤◌, length, IfOk, IfErr, Err};
+ghost use Rattle.numbers.specs.Answer.{done};
 ghost use Rattle.refusals.specs.Ladder.{ladder};
 ghost use Rattle.block_image.specs.Rules.{bytes_from, used_at, is_zero};
 ghost use Rattle.block_image.specs.Taken.{blocks_in, rows_of};
@@ -27,6 +27,7 @@ fn is_zero(f: Format, bytes: &[u8], o: usize, used: usize) -> bool
 }
 
 // The first of 41 to 44 that block k, which starts at o and says that it uses so many rows, breaks; or done.
+#[tactic(auto, unfolding(block_image::specs::Refusals::block_answer, block_image::specs::Rules::is_check))]
 fn block_answer(f: Format, bytes: &[u8], o: usize, k: usize, last: bool, used: usize) -> Answer
     requires { Fits f × (o + 512 ≤ length bytes.now) × (k ≤ 1024) × (used ≡ used_at (bytes_from bytes.now o)) }
     ensures { result ≡ block_answer f last k (bytes_from bytes.now o) }
@@ -46,31 +47,17 @@ fn block_answer(f: Format, bytes: &[u8], o: usize, k: usize, last: bool, used: u
     Ok(())
 }
 
-// What the tests answer, and how many rows there are where they answer done.
-#[derive(Clone, Copy)]
-pub struct Tested {
-    pub answer: Answer,
-    pub rows: usize,
-}
-
-// The first refusal of the blocks in their order, or done.
-pub fn blocks_answer(f: Format, bytes: &[u8], n: usize) -> Tested
+// How many rows the blocks have, or the first refusal of the blocks in their order.
+pub fn blocks_answer(f: Format, bytes: &[u8], n: usize) -> Result<usize, Refusal>
     requires { Fits f × (n ≡ blocks_in bytes.now) × (n ≤ 1024) }
-    ensures { (result.answer ≡ ladder (blocks_rules f bytes.now n)) × (is_done result.answer ≡ true → result.rows ≡ rows_of f bytes.now) }
+    ensures accepted { IfOk result (λ rows. (ladder (blocks_rules f bytes.now n) ≡ done) × (rows ≡ rows_of f bytes.now)) }
+    ensures refused { IfErr result (λ refusal. ladder (blocks_rules f bytes.now n) ≡ Err refusal) }
 {
     let mut rows = 0;
-    let mut k = 0;
-    while k < n {
+    for k in 0..n {
         let used = word_32(bytes, 512 * k, 4) as usize;
-        let answer = block_answer(f, bytes, 512 * k, k, k + 1 == n, used);
-        if !answer.is_done() {
-            return Tested { answer, rows };
-        }
+        block_answer(f, bytes, 512 * k, k, k + 1 == n, used)?;
         rows = k * f.rows + used;
-        k += 1;
     }
-    Tested {
-        answer: Answer::Done,
-        rows,
-    }
+    Ok(rows)
 }

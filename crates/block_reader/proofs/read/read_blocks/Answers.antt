@@ -1,85 +1,64 @@
 -- `read_blocks` meets its contract: the tests, and then what they allow. Assumes nothing.
-use borrow.Author.Tests.{not-true, not-false}
-use mathlib.Core.Path.{◌≡◌, sym, ◌∙◌, ap}
-use mathlib.Core.Bool.{true}
+use mathlib.Core.Path.{◌≡◌, refl, sym, ◌∙◌, ap}
+use mathlib.Core.List.{List}
 use Prim.Native.Nat.{ℕ, ◌*◌, ◌≤◌}
 use native.Mathlib.Nat.{mul-le-mul, mul-le-mul_left}
 use native.Mathlib.Omega.{arith}
-use lib.ListN.{length}
-use Rattle.numbers.specs.Answer.{is_done}
-use Rattle.numbers.proofs.Named.{done-is}
+use Rattle.numbers.specs.Answer.{done, is_done}
+use Rattle.numbers.proofs.Look.{passed_on}
+use Rattle.numbers.proofs.Named.{refusal-not-done}
 use Rattle.refusals.proofs.Promise.{refused, finished}
 use Rattle.lists.specs.Fill.{filled}
 use Rattle.lists.proofs.Fill.{filled_none, filled_more}
-use Rattle.block_image.specs.Taken.{WholeFile, rows_of, word_at}
-use Rattle.block_image.proofs.Fits.{words-most}
+use Rattle.block_image.specs.Taken.{blocks_in, rows_of, word_at}
+use Rattle.block_image.specs.Refusals.{file_answer}
 use Rattle.block_image.specs.Promises.{outputs}
+use Rattle.block_image.specs.Fits.{Fits}
+use Rattle.block_image.specs.declared.format.Format.{Format}
+use Rattle.block_image.proofs.Fits.{words-most}
 use Rattle.block_image.proofs.WholeFile.{read_done, room-parts, rows_few, words-within}
 use Rattle.block_reader.proofs.read.read_blocks.Goals as goal
-use Rattle.block_reader.proofs.read.read_blocks.Lts as lts
-use Rattle.block_reader.proofs.read.read_blocks.Reads as reads
-use Rattle.block_reader.proofs.read.read_blocks.Tie as tie
 
-abbrev At-Else-not-is_done : Type 0
-At-Else-not-is_done = lts.Else1 tie.the-claims reads.Pre reads.Post
+-- what a reading that is done has shown of the rows that it counts
+record Shown (F : Format) (bytes : List ℕ) (room slots rows : ℕ) : Type 0 where
+  small : rows * F.words ≤ 1024 * 508
+  fit : rows * F.words ≤ room
+  slot : 1 ≤ slots
+  within : rows * F.words ≤ blocks_in bytes * (F.rows * F.words)
 
-abbrev At-Start : Type 0
-At-Start = lts.Start tie.the-claims reads.Pre reads.Post
+shown : (F : Format) (bytes : List ℕ) (room slots rows : ℕ) → Fits F → (file_answer F bytes room slots ≡ done) × (rows ≡ rows_of F bytes)
+    → Shown F bytes room slots rows
+shown F bytes room slots rows fit a =
+    let d = read_done F bytes room slots a.0 in
+    let r = room-parts _ _ _ d.1 in
+    rw a.1 (record { small = mul-le-mul (rows_few F bytes d.0) (words-most F fit); fit = r.0; slot = r.1; within = words-within F bytes d.0 })
 
-module _ (c : At-Else-not-is_done) where
-  abbrev t : At-Start
-  t = c.before.before.before.before.before.before
-
-  abbrev count : ℕ
-  count = c.read_answer-tested.result.rows
-
-  yes : is_done c.read_answer-tested.result.answer ≡ true
-  yes = sym c.is_done.ensures ∙ not-false c.is_done.result c.if-not-is_done.false-raw
-
-  count-is : count ≡ rows_of t.args.f t.args.bytes.now
-  count-is = c.read_answer-tested.ensures.1 yes
-
-  shown : WholeFile t.args.f t.args.bytes.now × ((rows_of t.args.f t.args.bytes.now * t.args.f.words ≤ length t.args.plan.now) × (1 ≤ length t.args.rows.now))
-  shown =
-      let d = read_done t.args.f t.args.bytes.now _ _ (sym c.read_answer-tested.ensures.0 ∙ done-is _ yes) in
-      (d.0, room-parts _ _ _ d.1)
-
-  few : count ≤ 1024
-  few = rw count-is (rows_few t.args.f t.args.bytes.now shown.0)
-
-  small : count * t.args.f.words ≤ 1024 * 508
-  small = mul-le-mul few (words-most t.args.f t.requires)
-
-pub returns-then-not-is_done : goal.returns-then-not-is_done
-returns-then-not-is_done c = let i = c.is_done in refused _ _ c.read_answer-tested.ensures.0 (sym i.ensures ∙ not-true i.result c.if-not-is_done.true-raw)
-
-pub overflow_mul-f : goal.overflow_mul-f
-overflow_mul-f c = omega (arith, (t c.before.before).requires.fills)
-
-pub overflow_add-f : goal.overflow_add-f
-overflow_add-f c = omega (arith, (t c.before.before.before).requires.fills)
+pub returns-in_err-count : goal.returns-in_err-count
+returns-in_err-count c =
+    let e = passed_on _ c.from_residual.ensures.1 in
+    refused _ _ (e ∙ sym c.in_err-count.ensures.refused) (ap is_done e ∙ refusal-not-done _)
 
 pub overflow_mul-count : goal.overflow_mul-count
-overflow_mul-count c = omega (arith, small c.before.before.before.before)
+overflow_mul-count c = let s = shown _ _ _ _ _ c.requires c.in_ok-count.ensures.accepted in omega (arith, s.small)
 
 pub take_plan-requires : goal.take_plan-requires
 take_plan-requires c =
-    let e = c.before.before.before.before.before in
-    let s = t e in
-    let h = shown e in (
-      omega (arith, mul-le-mul_left {m = 1} {n = s.args.f.words} s.args.f.rows s.requires.some_words, s.requires.some-rows),
-      omega (arith, s.requires.fills),
-      rw (count-is e) h.1.0,
-      rw (count-is e) (words-within s.args.f s.args.bytes.now h.0),
+    let f = c.args.f in
+    let s = shown _ _ _ _ _ c.requires c.in_ok-count.ensures.accepted in (
+      omega (arith, mul-le-mul_left {m = 1} {n = f.words} f.rows c.requires.some_words, c.requires.some-rows),
+      omega (arith, c.requires.fills),
+      s.fit,
+      s.within,
     )
 
 pub bounds-rows-0 : goal.bounds-rows-0
-bounds-rows-0 c = (shown c.before.before.before.before.before.before.before.before).1.1
+bounds-rows-0 c = (shown _ _ _ _ _ c.requires c.in_ok-count.ensures.accepted).slot
 
 pub returns : goal.returns
+unfolding is_done
 returns c =
-    let e = c.before.before.before.before.before.before.before.before in
-    let s = t e in
-    let p = c.take_plan.ensures ∙ ap (λ x. filled (x * s.args.f.words) (word_at s.args.f s.args.bytes.now) s.args.plan.now) (count-is e) in
-    let q = filled_more 0 (λ i. rows_of s.args.f s.args.bytes.now) s.args.rows.now s.args.rows.now _ 0 (shown e).1.1 (sym (filled_none _ _)) (count-is e) in
-    finished _ _ e.read_answer-tested.ensures.0 (yes e) (λ j. outputs (p j) (q j))
+    let a = c.in_ok-count.ensures.accepted in
+    let s = shown _ _ _ _ _ c.requires a in
+    let p = c.take_plan.ensures ∙ ap (λ x. filled (x * c.args.f.words) (word_at c.args.f c.args.bytes.now) c.args.plan.now) a.1 in
+    let q = filled_more 0 (λ i. rows_of c.args.f c.args.bytes.now) c.args.rows.now c.args.rows.now _ 0 s.slot (sym (filled_none _ _)) a.1 in
+    finished _ _ (sym a.0) refl (λ j. outputs (p j) (q j))
