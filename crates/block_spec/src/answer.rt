@@ -15,10 +15,7 @@ pub fn max_of(d: u16) -> i32
     requires { is_depth d ≡ true }
     ensures { result ≡ pos (most d) }
 {
-    let FoundDepth::Is(depth) = Depth::of(d) else {
-        return 0;
-    };
-    depth.max()
+    Depth::try_from(d).unwrap().max()
 }
 
 // 1 and 2.

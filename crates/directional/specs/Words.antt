@@ -1,24 +1,23 @@
 -- A direction in a job's words: direction, delta + 3, flags, max-width, max-height (document 01, Ranges and numbers that name things).
-use Rattle.std.specs.Prelude.{ℕ, Bool, cond, ◌&&◌, leb, ℤ, pos, nat_abs}
+use Rattle.std.specs.Prelude.{ℕ, Bool, cond, ◌&&◌, leb, ℤ, pos, nat_abs, Result, Ok, Err}
 use Rattle.numbers.specs.Depth.{most}
 use Rattle.row_words.specs.Dir.{dir_of, angle_of, delta_of, is_dir, is_delta}
 use Rattle.row_words.specs.Flag.{no_stray, flags_of}
 use Rattle.row_words.specs.declared.dir.Dir.{Dir}
-use Rattle.row_words.specs.declared.dir.FoundDir.{FoundDir}
-use Rattle.row_words.specs.declared.dir.FoundDir.TheVariants.{Is, NoDir}
 use Rattle.row_words.specs.declared.flag.Flags.{Flags}
 use Rattle.direct_calls.specs.Direct.{Predictor}
 use Rattle.setting.specs.declared.Setting.{Setting}
 use Rattle.directional.specs.Directional.{directional_at}
+use Rattle.numbers.specs.declared.answer.Refusal.{Refusal}
 
 -- refusal 3: "direction above 7, delta word above 6, a stray flag bit"
 unfoldable pub is_named : ℕ → ℕ → ℕ → Bool
 is_named direction delta flags = is_dir direction && (is_delta delta && no_stray flags)
 
 -- "the angle is the direction's degrees plus 3 times delta"
-abbrev pub angle_from : FoundDir → ℕ → ℕ
-angle_from (Is d) delta = nat_abs (angle_of d (delta_of delta))
-angle_from NoDir delta = 0
+abbrev pub angle_from : Result Dir Refusal → ℕ → ℕ
+angle_from (Ok d) delta = nat_abs (angle_of d (delta_of delta))
+angle_from (Err _) delta = 0
 
 -- "Max-width or max-height 0 stands for B."
 unfoldable pub limit_of : ℕ → ℕ → ℕ

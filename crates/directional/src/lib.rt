@@ -33,5 +33,5 @@ pub fn directional(
     words::directed_into(
         b, d, direction, delta, flags, wide, high, above, left, corner, out,
     );
-    answer
+    Ok(())
 }

@@ -49,9 +49,7 @@ pub fn turned_into(
     requires { (is_depth d ≡ true) × (nat_abs delta ≤ 3) × Given b (most d) above.now left.now corner (length out.old) }
     ensures { out.new ≡ block b b (turned_by d dir delta flags wide high b above.now left.now corner) out.old }
 {
-    let FoundDepth::Is(depth) = Depth::of(d) else {
-        return;
-    };
+    let m = Depth::try_from(d).unwrap().max();
     let set = setting_of(b, dir, delta, flags, wide, high);
-    choice::directional_into(b as usize, set, depth.max(), above, left, corner, out);
+    choice::directional_into(b as usize, set, m, above, left, corner, out);
 }

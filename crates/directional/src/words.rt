@@ -13,7 +13,7 @@ use row_words::flag::Flags;
 pub fn is_named(direction: u16, delta: u16, flags: u16) -> bool
     ensures { result ≡ is_named direction delta flags }
 {
-    let FoundDir::Is(_) = Dir::of(direction) else {
+    let Ok(_) = Dir::try_from(direction) else {
         return false;
     };
     if !Dir::is_delta(delta) {
@@ -39,9 +39,7 @@ pub fn directed_into(
     requires { (is_depth d ≡ true) × (is_named direction delta flags ≡ true) × Given b (most d) above.now left.now corner (length out.old) }
     ensures { out.new ≡ block b b (directed d direction delta flags wide high b above.now left.now corner) out.old }
 {
-    let FoundDir::Is(dir) = Dir::of(direction) else {
-        return;
-    };
+    let dir = Dir::try_from(direction).unwrap();
     turned::turned_into(
         b,
         d,

@@ -30,5 +30,5 @@ pub fn build_refs(
     };
     answer::refused(plane, width, height, s, n)?;
     corner[0] = fill::fill_edges(plane, width, s, above, left);
-    answer
+    Ok(())
 }

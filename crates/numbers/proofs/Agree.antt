@@ -9,9 +9,9 @@ use Rattle.numbers.specs.declared.size.Size.TheVariants.{B4, B8, B16, B32, B64}
 use Rattle.numbers.specs.Depth.{bits_of, depths, depth_of, is_depth}
 use Rattle.numbers.specs.declared.depth.Depth.{Depth}
 use Rattle.numbers.specs.declared.depth.Depth.TheVariants.{Eight, Ten, Twelve}
-use Rattle.std.specs.Prelude.{Result, Ok, Err}
+use Rattle.std.specs.Prelude.{Result, Ok, Err, IsOk}
 use Rattle.numbers.specs.declared.answer.Refusal.TheVariants.{BadSize, BadDepth}
-use Rattle.numbers.proofs.Look.{look-back, look-yes, look-no, look-else, ok-same, err-ok, Every, among-all}
+use Rattle.numbers.proofs.Look.{look-back, look-yes, look-no, look-else, look-found, ok-same, err-ok, Every, among-all}
 use Rattle.numbers.specs.declared.answer.Refusal.{Refusal}
 
 -- ---- Size
@@ -30,9 +30,9 @@ pub size-yes : (n : ℕ) (e : Size) → size_of n ≡ Ok e → is_size n ≡ tru
 unfolding is_size
 size-yes n e h = look-yes side_of Ok (Err BadSize) ok-same (err-ok BadSize) sizes n e h
 
-pub size-no : (n : ℕ) → size_of n ≡ Err BadSize → is_size n ≡ false
+pub size-no : (n : ℕ) {r : Refusal} → size_of n ≡ Err r → is_size n ≡ false
 unfolding is_size
-size-no n h = look-no side_of Ok (Err BadSize) ok-same (err-ok BadSize) sizes n h
+size-no n h = look-no side_of BadSize sizes n h
 
 pub size-else : {A : Type 0} (n : ℕ) {r : Refusal} (later : Result A Refusal) → Err r ≡ size_of n → Err r ≡ cond (is_size n) later (Err BadSize)
 unfolding is_size
@@ -57,13 +57,17 @@ pub depth-yes : (n : ℕ) (e : Depth) → depth_of n ≡ Ok e → is_depth n ≡
 unfolding is_depth
 depth-yes n e h = look-yes bits_of Ok (Err BadDepth) ok-same (err-ok BadDepth) depths n e h
 
-pub depth-no : (n : ℕ) → depth_of n ≡ Err BadDepth → is_depth n ≡ false
+pub depth-no : (n : ℕ) {r : Refusal} → depth_of n ≡ Err r → is_depth n ≡ false
 unfolding is_depth
-depth-no n h = look-no bits_of Ok (Err BadDepth) ok-same (err-ok BadDepth) depths n h
+depth-no n h = look-no bits_of BadDepth depths n h
 
 pub depth-else : {A : Type 0} (n : ℕ) {r : Refusal} (later : Result A Refusal) → Err r ≡ depth_of n → Err r ≡ cond (is_depth n) later (Err BadDepth)
 unfolding is_depth
 depth-else n later h = look-else bits_of BadDepth depths n later h
+
+pub depth-found : (n : ℕ) → is_depth n ≡ true → IsOk (depth_of n)
+unfolding is_depth
+depth-found n e = look-found bits_of BadDepth depths n e
 
 -- a fact of each depth is computed there, and used with D open
 pub depth-all : (P : ℕ → Type 0) (n : ℕ) → Every (λ e. P (bits_of e)) depths → is_depth n ≡ true → P n

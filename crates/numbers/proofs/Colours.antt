@@ -28,9 +28,9 @@ pub colour-yes : (n : ℕ) (e : ColourDirection) → colour_of n ≡ Ok e → is
 unfolding is_colour
 colour-yes n e h = look-yes colour_number Ok (Err BadColourDirection) ok-same (err-ok BadColourDirection) colours n e h
 
-pub colour-no : (n : ℕ) → colour_of n ≡ Err BadColourDirection → is_colour n ≡ false
+pub colour-no : (n : ℕ) {r : Refusal} → colour_of n ≡ Err r → is_colour n ≡ false
 unfolding is_colour
-colour-no n h = look-no colour_number Ok (Err BadColourDirection) ok-same (err-ok BadColourDirection) colours n h
+colour-no n h = look-no colour_number BadColourDirection colours n h
 
 pub colour-else : {A : Type 0} (n : ℕ) {r : Refusal} (later : Result A Refusal)
     → Err r ≡ colour_of n → Err r ≡ cond (is_colour n) later (Err BadColourDirection)

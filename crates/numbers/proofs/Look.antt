@@ -7,7 +7,7 @@ use Prim.Native.Nat.{ℕ}
 use native.Mathlib.Omega.{arith}
 use lib.Dec.{eqb}
 use borrow.Author.Tests.{eqb-true}
-use Rattle.std.specs.Prelude.{Result, Ok, Err, IsErrAnd}
+use Rattle.std.specs.Prelude.{Result, Ok, Err, IsErrAnd, IsOk}
 use Rattle.std.proofs.lemmas.Result.{err_from_is_err_and}
 use Rattle.numbers.specs.Look.{look, among}
 
@@ -29,15 +29,6 @@ module _ {E F : Type 0} (number : E → ℕ) (is : E → F) (none : F) (same : (
       go : (t : Bool) → (look number is none es n ≡ is e → among number es n ≡ true)
           → cond t (is d) (look number is none es n) ≡ is e → (t || among number es n) ≡ true
       go true later k = refl
-      go false later k = later k
-
-  pub look-no : (es : List E) (n : ℕ) → look number is none es n ≡ none → among number es n ≡ false
-  look-no [] n h = refl
-  look-no (d ∷ es) n h = go (eqb n (number d)) (look-no es n) h
-    where
-      go : (t : Bool) → (look number is none es n ≡ none → among number es n ≡ false)
-          → cond t (is d) (look number is none es n) ≡ none → (t || among number es n) ≡ false
-      go true later k = absurd (other d (sym k))
       go false later k = later k
 
 -- what holds of each case's number holds of a number that is among them
@@ -64,6 +55,16 @@ module _ {E R : Type 0} where
   pub err-same : (r q : R) → ◌≡◌ {A = Result E R} (Err r) (Err q) → r ≡ q
   err-same r q h = grind arith
 
+-- a lookup finds no case where the number is not among the cases'
+pub look-no : {E R : Type 0} (number : E → ℕ) (none : R) (es : List E) (n : ℕ) {r : R} → look number Ok (Err none) es n ≡ Err r → among number es n ≡ false
+look-no number none [] n h = refl
+look-no number none (d ∷ es) n {r = r} h = go (eqb n (number d)) (look-no number none es n) h
+  where
+    go : (t : Bool) → (look number Ok (Err none) es n ≡ Err r → among number es n ≡ false)
+        → cond t (Ok d) (look number Ok (Err none) es n) ≡ Err r → (t || among number es n) ≡ false
+    go true later h = absurd (err-ok r d (sym h))
+    go false later h = later h
+
 -- a lookup that a `?` ends is a rule that is broken
 pub look-else : {E R A : Type 0} (number : E → ℕ) (none : R) (es : List E) (n : ℕ) {r : R} (later : Result A R)
     → Err r ≡ look number Ok (Err none) es n → Err r ≡ cond (among number es n) later (Err none)
@@ -73,6 +74,16 @@ look-else number none (d ∷ es) n {r = r} later h = go (eqb n (number d)) (look
     go : (t : Bool) → (Err r ≡ look number Ok (Err none) es n → Err r ≡ cond (among number es n) later (Err none))
         → Err r ≡ cond t (Ok d) (look number Ok (Err none) es n) → Err r ≡ cond (t || among number es n) later (Err none)
     go true next h = absurd (err-ok r d h)
+    go false next h = next h
+
+-- and one that finds a case is a rule that is kept
+pub look-found : {E R : Type 0} (number : E → ℕ) (none : R) (es : List E) (n : ℕ) → among number es n ≡ true → IsOk (look number Ok (Err none) es n)
+look-found number none [] n h = absurd (true≢false (sym h))
+look-found number none (d ∷ es) n h = go (eqb n (number d)) (look-found number none es n) h
+  where
+    go : (t : Bool) → (among number es n ≡ true → IsOk (look number Ok (Err none) es n)) → (t || among number es n) ≡ true
+        → IsOk (cond t (Ok d) (look number Ok (Err none) es n))
+    go true next h = refl
     go false next h = next h
 
 -- what a `?` returns is the refusal that it found

@@ -1,9 +1,9 @@
 -- The number of an answer and the answer of a number agree, both ways; done is the one that is 0. Assumes nothing.
-use mathlib.Core.Path.{◌≡◌, refl, ap}
+use mathlib.Core.Path.{◌≡◌, refl, sym, ◌∙◌, ap}
 use mathlib.Core.Bool.{true, false}
 use Prim.Native.Nat.{ℕ}
 use borrow.Author.Tests.{eqb-true, eq-eqb}
-use Rattle.std.specs.Prelude.{Ok, Err, Some, None}
+use Rattle.std.specs.Prelude.{⊤, Ok, Err, Some, None}
 use Rattle.std.proofs.lemmas.Option.{same_Some, none-some}
 use Rattle.numbers.specs.Answer.{Answer, done, refusal_number, answer_number, answers, answer_of, is_done}
 use Rattle.numbers.specs.declared.answer.Refusal.{Refusal}
@@ -75,6 +75,14 @@ refusal-not-done NoRoom = refl
 pub done-is : (a : Answer) → is_done a ≡ true → a ≡ done
 done-is (Ok _) h = refl
 done-is (Err r) h = let n = refusal-not-done r in cc
+
+-- what a call answers that returned Ok, or Err
+pub ok-done : {a : Answer} {u : ⊤} → Ok u ≡ a → is_done a ≡ true
+unfolding is_done
+ok-done e = ap is_done (sym e)
+
+pub err-refused : {a : Answer} {r : Refusal} → Err r ≡ a → is_done a ≡ false
+err-refused {r = r} e = ap is_done (sym e) ∙ refusal-not-done r
 
 -- the answer by its number, both ways
 pub done-number : (a : Answer) → is_done a ≡ true → answer_number a ≡ answer_number done

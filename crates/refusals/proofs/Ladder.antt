@@ -66,3 +66,13 @@ module _ (rules more : List Rule) where
       ladder-append rules more
       ∙ ap (λ a. cond (is_done a) (ladder more) a) e
       ∙ ap (λ b. cond b (ladder more) (Err r)) (refusal-not-done r)
+
+module _ (rules more : List Rule) {a : Answer} where
+  pub segment-ok : {u : ⊤} → Ok u ≡ ladder rules → a ≡ ladder (rules ++ more) → a ≡ ladder more
+  segment-ok {u = u} e p = p ∙ ladder-ok rules more u (sym e)
+
+  pub segment-err : {r : Refusal} → Err r ≡ ladder rules → a ≡ ladder (rules ++ more) → Err r ≡ a
+  segment-err {r = r} e p = sym (p ∙ ladder-err rules more r (sym e))
+
+pub all-ok : (rules : List Rule) {u : ⊤} → Ok u ≡ ladder rules → AllKept rules
+all-ok rules e = all-kept rules (sym e)

@@ -1,10 +1,12 @@
 -- A promise leaves no choice, and a call that is refused, or done, is one of the two sides of `lent`. Assumes nothing.
-use mathlib.Core.Path.{◌≡◌, sym, ◌∙◌, ap}
+use mathlib.Core.Path.{◌≡◌, refl, sym, ◌∙◌, ap}
 use mathlib.Core.Bool.{true, false, cond}
 use Prim.Native.Nat.{ℕ}
-use Rattle.std.specs.Prelude.{Ok}
+use Rattle.std.specs.Prelude.{⊤, Ok, Err, IsErrAnd}
+use Rattle.numbers.specs.declared.answer.Refusal.{Refusal}
+use Rattle.numbers.proofs.Look.{passed_on}
 use Rattle.numbers.specs.Answer.{Answer, answer_number, is_done}
-use Rattle.numbers.proofs.Named.{done-is}
+use Rattle.numbers.proofs.Named.{done-is, ok-done, refusal-not-done}
 use Rattle.refusals.specs.Promise.{lent, Promise}
 
 -- "Show that any two results allowed by the same promise coincide": whatever the call, its answer's type and its memory
@@ -26,6 +28,15 @@ refused {answer = a} done before e n = record { answers = e; holds = lent-refuse
 pub finished : {M : Type 0} {answer r : Answer} (done before : M) {after : M} → r ≡ answer → is_done r ≡ true → after ≡ done
     → Promise answer (lent answer done before) r after
 finished {answer = a} {r = r} done before e y h = record { answers = e; holds = h ∙ lent-done a done before (sym e ∙ done-is r y) }
+
+-- a call that passes a refusal on by `?` after its tests, with its memory as it was; and one that comes to Ok, with its memory written
+pub passes-on : {M : Type 0} {answer : Answer} {e : Refusal} (r : Answer) (done before : M) → IsErrAnd r (λ y. y ≡ e) → Err e ≡ answer
+    → Promise answer (lent answer done before) r before
+passes-on r done before h e = let p = passed_on r h in refused done before (p ∙ e) (ap is_done p ∙ refusal-not-done _)
+
+pub comes-to : {M : Type 0} {answer : Answer} {u : ⊤} (done before : M) {after : M} → Ok u ≡ answer → after ≡ done
+    → Promise answer (lent answer done before) (Ok u) after
+comes-to done before e h = finished done before e (ok-done refl) h
 
 -- the same promise, of the answer's number
 pub numbered : {M : Type 0} {answer a : Answer} {memory after : M} {r : ℕ} → Promise answer memory a after → r ≡ answer_number a

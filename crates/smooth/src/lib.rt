@@ -14,7 +14,7 @@ pub fn smooth(b: u16, d: u16, above: &[i32], left: &[i32], corner: i32, out: &mu
 {
     direct_calls::direct::direct(b, d, true, above, left, corner, out.len())?;
     block::smooth_into(b as usize, above, left, out);
-    answer
+    Ok(())
 }
 
 // smooth_v: the same with its own samples.
@@ -23,7 +23,7 @@ pub fn smooth_v(b: u16, d: u16, above: &[i32], left: &[i32], corner: i32, out: &
 {
     direct_calls::direct::direct(b, d, true, above, left, corner, out.len())?;
     block::smooth_v_into(b as usize, above, left, out);
-    answer
+    Ok(())
 }
 
 // smooth_h: the same with its own samples.
@@ -32,5 +32,5 @@ pub fn smooth_h(b: u16, d: u16, above: &[i32], left: &[i32], corner: i32, out: &
 {
     direct_calls::direct::direct(b, d, true, above, left, corner, out.len())?;
     block::smooth_h_into(b as usize, above, left, out);
-    answer
+    Ok(())
 }

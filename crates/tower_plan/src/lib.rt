@@ -35,5 +35,5 @@ pub fn run(
         answers.len(),
     )?;
     rows::run_order(p0, p1, p2, width, height, plan, order, differences, answers);
-    answer
+    Ok(())
 }

@@ -6,15 +6,14 @@ use Rattle.directional.proofs.words.is_named.Goals as goal
 
 pub returns-in_default : goal.returns-in_default
 unfolding is_named
-returns-in_default c =
-    simp (dir-no c.args.direction (sym c.of.ensures ∙ c.in_default.is))
+returns-in_default c = simp (dir-no c.args.direction (sym c.try_from.ensures ∙ c.in_default.is))
 
 pub returns-then-not-is_delta : goal.returns-then-not-is_delta
 unfolding is_named
 returns-then-not-is_delta c =
-    simp (dir-yes c.args.direction _ (sym c.of.ensures ∙ c.in-Is.is), sym c.is_delta.ensures ∙ c.if-not-is_delta.true)
+    simp (dir-yes c.args.direction _ (sym c.try_from.ensures ∙ c.in-Ok.is), sym c.is_delta.ensures ∙ c.if-not-is_delta.true)
 
 pub returns : goal.returns
 unfolding is_named
 returns c =
-    simp (dir-yes c.args.direction _ (sym c.of.ensures ∙ c.in-Is.is), sym c.is_delta.ensures ∙ c.if-not-is_delta.false) c.no_stray.ensures
+    simp (dir-yes c.args.direction _ (sym c.try_from.ensures ∙ c.in-Ok.is), sym c.is_delta.ensures ∙ c.if-not-is_delta.false) c.no_stray.ensures
