@@ -1,13 +1,11 @@
 -- `read_blocks` meets its contract: the tests, and then what they allow. Assumes nothing.
-use mathlib.Core.Path.{◌≡◌, refl, sym, ◌∙◌, ap}
+use mathlib.Core.Path.{◌≡◌, sym, ◌∙◌, ap}
 use mathlib.Core.List.{List}
 use Prim.Native.Nat.{ℕ, ◌*◌, ◌≤◌}
 use native.Mathlib.Nat.{mul-le-mul, mul-le-mul_left}
 use native.Mathlib.Omega.{arith}
-use Rattle.numbers.specs.Answer.{done, is_done}
-use Rattle.numbers.proofs.Look.{passed_on}
-use Rattle.numbers.proofs.Named.{refusal-not-done}
-use Rattle.refusals.proofs.Promise.{refused, finished}
+use Rattle.numbers.specs.Answer.{done}
+use Rattle.refusals.proofs.Promise.{passes-on, comes-to}
 use Rattle.lists.specs.Fill.{filled}
 use Rattle.lists.proofs.Fill.{filled_none, filled_more}
 use Rattle.block_image.specs.Taken.{blocks_in, rows_of, word_at}
@@ -34,9 +32,7 @@ shown F bytes room slots rows fit a =
     rw a.1 (record { small = mul-le-mul (rows_few F bytes d.0) (words-most F fit); fit = r.0; slot = r.1; within = words-within F bytes d.0 })
 
 pub returns-in_err-count : goal.returns-in_err-count
-returns-in_err-count c =
-    let e = passed_on _ c.from_residual.ensures.1 in
-    refused _ _ (e ∙ sym c.in_err-count.ensures.refused) (ap is_done e ∙ refusal-not-done _)
+returns-in_err-count c = passes-on _ _ _ c.from_residual.ensures.1 (sym c.in_err-count.ensures.refused)
 
 pub overflow_mul-count : goal.overflow_mul-count
 overflow_mul-count c = let s = shown _ _ _ _ _ c.requires c.in_ok-count.ensures.accepted in omega (arith, s.small)
@@ -55,10 +51,9 @@ pub bounds-rows-0 : goal.bounds-rows-0
 bounds-rows-0 c = (shown _ _ _ _ _ c.requires c.in_ok-count.ensures.accepted).slot
 
 pub returns : goal.returns
-unfolding is_done
 returns c =
     let a = c.in_ok-count.ensures.accepted in
     let s = shown _ _ _ _ _ c.requires a in
     let p = c.take_plan.ensures ∙ ap (λ x. filled (x * c.args.f.words) (word_at c.args.f c.args.bytes.now) c.args.plan.now) a.1 in
     let q = filled_more 0 (λ i. rows_of c.args.f c.args.bytes.now) c.args.rows.now c.args.rows.now _ 0 s.slot (sym (filled_none _ _)) a.1 in
-    finished _ _ (sym a.0) refl (λ j. outputs (p j) (q j))
+    comes-to _ _ (sym a.0) (λ j. outputs (p j) (q j))

@@ -1,12 +1,10 @@
 -- `write_blocks` meets its contract: the tests, and then the blocks. Assumes nothing.
-use mathlib.Core.Path.{◌≡◌, refl, sym, ◌∙◌, ap}
+use mathlib.Core.Path.{◌≡◌, sym, ◌∙◌, ap}
 use mathlib.Core.List.{List}
 use Prim.Native.Nat.{ℕ, ◌*◌, ◌/◌, ◌≤◌}
 use native.Mathlib.Omega.{arith}
-use Rattle.numbers.specs.Answer.{done, is_done}
-use Rattle.numbers.proofs.Look.{passed_on}
-use Rattle.numbers.proofs.Named.{refusal-not-done}
-use Rattle.refusals.proofs.Promise.{refused, finished}
+use Rattle.numbers.specs.Answer.{done}
+use Rattle.refusals.proofs.Promise.{passes-on, comes-to}
 use Rattle.lists.specs.Fill.{filled}
 use Rattle.lists.proofs.Fill.{filled_none, filled_more}
 use Rattle.block_image.specs.Image.{rows_in, image_byte, image_size}
@@ -35,9 +33,7 @@ blocks-are : (n blocks : ℕ) → n ≡ 512 * blocks → n / 512 ≡ blocks
 blocks-are n blocks e = omega arith
 
 pub returns-in_err-write_answer : goal.returns-in_err-write_answer
-returns-in_err-write_answer c =
-    let e = passed_on _ c.from_residual.ensures.1 in
-    refused _ _ (e ∙ c.in_err-write_answer.ensures) (ap is_done e ∙ refusal-not-done _)
+returns-in_err-write_answer c = passes-on _ _ _ c.from_residual.ensures.1 c.in_err-write_answer.ensures
 
 pub image_size-size-requires : goal.image_size-size-requires
 image_size-size-requires c = (c.requires, (shown _ _ _ _ c.in_ok-write_answer.ensures).rows.few)
@@ -51,7 +47,6 @@ pub bounds-length-0 : goal.bounds-length-0
 bounds-length-0 c = (shown _ _ _ _ c.in_ok-write_answer.ensures).slot
 
 pub returns : goal.returns
-unfolding is_done
 returns c =
     let f = c.args.f in
     let plan = c.args.plan.now in
@@ -59,4 +54,4 @@ returns c =
     let b = ap (λ x. 512 * x) (blocks-are _ _ c.image_size-size.ensures) in
     let p = c.all_blocks.ensures ∙ ap (λ x. filled x (image_byte f plan) c.args.out.now) b in
     let q = filled_more 0 (λ i. image_size f plan) c.args.length.now c.args.length.now _ 0 s.slot (sym (filled_none _ _)) c.image_size-size.ensures in
-    finished _ _ c.in_ok-write_answer.ensures refl (λ j. outputs (p j) (q j))
+    comes-to _ _ c.in_ok-write_answer.ensures (λ j. outputs (p j) (q j))
