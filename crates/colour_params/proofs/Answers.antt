@@ -1,18 +1,21 @@
 -- What the answer is, test by test, and what a window that passes them has. Assumes nothing.
-use mathlib.Core.Path.{◌≡◌, refl, sym, ◌∙◌, ap}
-use mathlib.Core.Bool.{Bool, true, false, cond}
+use mathlib.Core.Path.{◌≡◌, refl, sym, ap}
+use mathlib.Core.Bool.{Bool, true}
 use mathlib.Core.List.{List, [], ◌∷◌}
 use Prim.Native.Nat.{ℕ, ◌≤◌}
 use native.Mathlib.Omega.{arith}
 use lib.IntN.{ℤ}
 use lib.ListN.{length, set}
-use Rattle.numbers.specs.Answer.{is_done, done, Answer}
+use Rattle.std.specs.Prelude.{Ok, Err}
+use Rattle.numbers.specs.Answer.{done, Answer}
 use Rattle.numbers.specs.Colour.{the_colour}
-use Rattle.numbers.specs.Depth.{is_depth}
-use Rattle.numbers.specs.declared.answer.Refusal.TheVariants.{BadDepth}
+use Rattle.numbers.specs.Depth.{is_depth, depth_of}
+use Rattle.numbers.specs.declared.answer.Refusal.{Refusal}
+use Rattle.numbers.proofs.Agree.{depth-else}
+use Rattle.numbers.proofs.Look.{ok-same, err-ok, err-same}
 use Rattle.signed.proofs.Range.{and_both}
 use Rattle.refusals.specs.Ladder.{Rule, ladder}
-use Rattle.refusals.proofs.Ladder.{all-kept, segment-kept, segment-broken}
+use Rattle.refusals.proofs.Ladder.{all-kept, ladder-ok, ladder-err}
 use Rattle.colour_terms.specs.Reference.{is_sizes, is_held}
 use Rattle.colour_terms.specs.Terms.{entry}
 use Rattle.colour_terms.proofs.Granted.{sizes-all, held_all}
@@ -20,7 +23,7 @@ use Rattle.elimination.specs.declared.Params.{Params}
 use Rattle.colour_sums.specs.Sum.{Laid}
 use Rattle.colour_sums.specs.declared.window.Window.{Window}
 use Rattle.colour_params.specs.Rules.{are_references, window_rules, sample_rules, derive_rules, derive_answer}
-use Rattle.colour_params.specs.Derived.{zeros, list_params, answered, sampled, derived, written}
+use Rattle.colour_params.specs.Derived.{list_params, answered, sampled, derived, written}
 
 pub laid : (w : Window) (luma chroma : List ℤ) → are_references w (length luma) (length chroma) ≡ true → Laid w luma chroma
 unfolding are_references
@@ -44,40 +47,46 @@ module _ (luma chroma : List ℤ) (w : Window) (direction D : ℕ) (room : Bool)
   room-kept e = (all-kept (derive_rules luma chroma w direction D room) e).1.1.1.1.0
 
   -- the answer
-  pub answer-depth : is_depth D ≡ false → derive_answer luma chroma w direction D room ≡ BadDepth
+  pub answer-depth : (r : Refusal) → Err r ≡ depth_of D → derive_answer luma chroma w direction D room ≡ Err r
   unfolding derive_answer
-  answer-depth e = simp e
+  answer-depth r e = sym (depth-else D _ e)
 
-  pub answer-window : is_depth D ≡ true → is_done (ladder rules) ≡ false → derive_answer luma chroma w direction D room ≡ ladder rules
+  pub answer-window : (r : Refusal) → is_depth D ≡ true → ladder rules ≡ Err r → derive_answer luma chroma w direction D room ≡ Err r
   unfolding derive_answer
-  answer-window e n = simp e (sym (segment-broken rules (sample_rules (entry luma) (entry chroma) w (the_colour direction) D) n refl))
+  answer-window r e n = simp e (ladder-err rules (sample_rules (entry luma) (entry chroma) w (the_colour direction) D) r n)
 
   pub answer-samples : is_depth D ≡ true → ladder rules ≡ done
       → derive_answer luma chroma w direction D room ≡ ladder (sample_rules (entry luma) (entry chroma) w (the_colour direction) D)
-  unfolding derive_answer is_done
-  answer-samples e n = simp e (segment-kept rules (sample_rules (entry luma) (entry chroma) w (the_colour direction) D) (ap is_done n) refl)
+  unfolding derive_answer
+  answer-samples e n = simp e (ladder-ok rules (sample_rules (entry luma) (entry chroma) w (the_colour direction) D) tt n)
 
   -- what is returned
-  pub derived-refused : (a : Answer) → derive_answer luma chroma w direction D room ≡ a → is_done a ≡ false
-      → record { answer = a; params = zeros } ≡ derived luma chroma w direction D room
+  pub derived-refused : (r : Refusal) → derive_answer luma chroma w direction D room ≡ Err r → Err r ≡ derived luma chroma w direction D room
   unfolding derived
-  derived-refused a e n = λ j. record {
-    answer = sym e j;
-    params = (sym (ap (λ t. cond t (list_params luma chroma w direction D) zeros) (ap is_done e ∙ n))) j;
-  }
+  derived-refused r e = simp e
 
   pub derived-samples : derive_answer luma chroma w direction D room ≡ ladder (sample_rules (entry luma) (entry chroma) w (the_colour direction) D)
       → sampled (entry luma) (entry chroma) w (the_colour direction) D ≡ derived luma chroma w direction D room
   unfolding sampled derived
   derived-samples e = ap (answered (entry luma) (entry chroma) w (the_colour direction) D) (sym e)
 
-  pub derived-params : is_done (derive_answer luma chroma w direction D room) ≡ true → (derived luma chroma w direction D room).params ≡ list_params luma chroma w direction D
+  -- and what it says of the answer
+  pub derived-err : (r : Refusal) → Err r ≡ derived luma chroma w direction D room → Err r ≡ derive_answer luma chroma w direction D room
   unfolding derived
-  derived-params e = ap (λ t. cond t (list_params luma chroma w direction D) zeros) e
+  derived-err r e = go (derive_answer luma chroma w direction D room) e
+    where
+      go : (a : Answer) → Err r ≡ answered (entry luma) (entry chroma) w (the_colour direction) D a → Err r ≡ a
+      go (Ok _) h = absurd (err-ok _ _ h)
+      go (Err q) h = ap Err (err-same r q h)
 
-  pub derived-answer : (derived luma chroma w direction D room).answer ≡ derive_answer luma chroma w direction D room
+  pub derived-ok : (p : Params) → Ok p ≡ derived luma chroma w direction D room
+      → (done ≡ derive_answer luma chroma w direction D room) × (p ≡ list_params luma chroma w direction D)
   unfolding derived
-  derived-answer = refl
+  derived-ok p e = go (derive_answer luma chroma w direction D room) e
+    where
+      go : (a : Answer) → Ok p ≡ answered (entry luma) (entry chroma) w (the_colour direction) D a → (done ≡ a) × (p ≡ list_params luma chroma w direction D)
+      go (Ok _) h = (refl, ok-same _ _ h)
+      go (Err q) h = absurd (err-ok _ _ (sym h))
 
 -- three stores at the front of a list
 pub three-stores : (p : Params) (xs : List ℤ) → 3 ≤ length xs → set (set (set xs 0 p.x0) 1 p.x1) 2 p.x2 ≡ written p xs

@@ -6,48 +6,24 @@ mod rules;
 
 ghost use Rattle.std.specs.Prelude.{◌≡◌, true};
 ghost use Rattle.numbers.specs.Depth.{bits_of};
-ghost use Rattle.numbers.specs.declared.answer.Answer.TheVariants.{Done};
 ghost use Rattle.colour_terms.specs.Terms.{entry};
 ghost use Rattle.colour_sums.specs.Sum.{Laid};
-ghost use Rattle.colour_params.specs.Derived.{zeros, sampled, derived, Written};
+ghost use Rattle.colour_params.specs.Derived.{sampled, derived, with_zeros, Written};
 
 use colour_samples::sample::DepthTerms;
 use colour_sums::window;
 use colour_sums::window::{Gathered, Window};
 use elimination::Params;
-use numbers::answer::Answer;
+use numbers::answer::{Answer, Refusal};
 use numbers::colour::ColourDirection;
 use numbers::depth::Depth;
 
-// An answer, and the parameters: zeros where it refuses.
+// An answer and beside it the parameters, which are zeros where it refuses. Document 01 asks for zeros ("where three parameters would be returned they
+// are zeros"), so that what `derive_params` returns is no Result.
 #[derive(Clone, Copy)]
 pub struct Derived {
     pub answer: Answer,
     pub params: Params,
-}
-
-// A refusal.
-fn refused(answer: Answer) -> Derived
-    ensures { result ≡ record { answer = answer; params = zeros } }
-{
-    Derived {
-        answer,
-        params: Params {
-            x0: 0,
-            x1: 0,
-            x2: 0,
-        },
-    }
-}
-
-// An acceptance.
-fn accepted(params: Params) -> Derived
-    ensures { result ≡ record { answer = Done; params = params } }
-{
-    Derived {
-        answer: Answer::Done,
-        params,
-    }
 }
 
 // What the samples of a window give that passed the tests before 13: its parameters, or a refusal.
@@ -58,22 +34,22 @@ pub fn sampled(
     direction: ColourDirection,
     depth: Depth,
     d: u32,
-) -> Derived
+) -> Result<Params, Refusal>
     requires { Laid w luma.now chroma.now × (bits_of depth ≡ d) }
     ensures { result ≡ sampled (entry luma.now) (entry chroma.now) w direction d }
 {
     let n = window::count_of(w);
     if n == 0 {
-        return accepted(colour_solve::flat());
+        return Ok(colour_solve::flat());
     }
     let g = window::gather(luma, chroma, w, n, direction, DepthTerms::of(depth, d));
     let Gathered::Sums(s) = g else {
-        return refused(Answer::BadColourSample);
+        return Err(Refusal::BadColourSample);
     };
     if !colour_solve::is_small(s) {
-        return refused(Answer::SumTooLarge);
+        return Err(Refusal::SumTooLarge);
     }
-    accepted(colour_solve::params_of(s, n, depth, d))
+    Ok(colour_solve::params_of(s, n, depth, d))
 }
 
 // The parameters, or a refusal; `room` says whether the caller's list can take them.
@@ -84,24 +60,32 @@ pub fn derive(
     direction: u32,
     d: u32,
     room: bool,
-) -> Derived
+) -> Result<Params, Refusal>
     ensures { result ≡ derived luma.now chroma.now w direction d room }
 {
-    let FoundDepth::Is(depth) = colour_terms::depth_of(d) else {
-        return refused(Answer::BadDepth);
-    };
-    let answer = rules::answer_of(w, luma.len(), chroma.len(), direction, room);
-    if !answer.is_done() {
-        return refused(answer);
-    }
+    let depth = colour_terms::depth_of(d)?;
+    rules::answer_of(w, luma.len(), chroma.len(), direction, room)?;
     sampled(luma, chroma, w, ColourDirection::named(direction), depth, d)
 }
 
 // The parameters of a window, or a refusal with zeros.
 pub fn derive_params(luma: &[i32], chroma: &[i32], w: Window, direction: u32, d: u32) -> Derived
-    ensures { result ≡ derived luma.now chroma.now w direction d true }
+    ensures { result ≡ with_zeros (derived luma.now chroma.now w direction d true) }
 {
-    derive(luma, chroma, w, direction, d, true)
+    match derive(luma, chroma, w, direction, d, true) {
+        Ok(params) => Derived {
+            answer: Ok(()),
+            params,
+        },
+        Err(refusal) => Derived {
+            answer: Err(refusal),
+            params: Params {
+                x0: 0,
+                x1: 0,
+                x2: 0,
+            },
+        },
+    }
 }
 
 // The same with the parameters written to a list of at least three entries, which a refusal leaves as it was.
@@ -115,14 +99,12 @@ pub fn derive_into(
 ) -> Answer
     ensures { Written luma.now chroma.now w direction d params.old params.new result }
 {
-    let r = derive(luma, chroma, w, direction, d, 3 <= params.len());
-    r.answer?;
-    let p = r.params;
+    let p = derive(luma, chroma, w, direction, d, 3 <= params.len())?;
     let x0 = p.x0;
     let x1 = p.x1;
     let x2 = p.x2;
     params[0] = x0;
     params[1] = x1;
     params[2] = x2;
-    answer
+    Ok(())
 }

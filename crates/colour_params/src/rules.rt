@@ -30,9 +30,7 @@ fn are_references(w: Window, luma: usize, chroma: usize) -> bool
 pub fn answer_of(w: Window, luma: usize, chroma: usize, direction: u32, room: bool) -> Answer
     ensures { result ≡ ladder (window_rules luma chroma w direction room) }
 {
-    let FoundColour::Is(_) = ColourDirection::of(direction) else {
-        return Err(Refusal::BadColourDirection);
-    };
+    ColourDirection::try_from(direction)?;
     if !are_references(w, luma, chroma) {
         return Err(Refusal::BadReference);
     }

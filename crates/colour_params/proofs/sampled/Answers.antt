@@ -2,6 +2,7 @@
 use mathlib.Core.Path.{sym, ◌∙◌, ap, subst}
 use Prim.Native.Nat.{ℕ, ◌*◌, ◌≤◌}
 use native.Mathlib.Omega.{arith}
+use Rattle.std.specs.Prelude.{Ok}
 use Rattle.numbers.specs.Depth.{most}
 use Rattle.colour_terms.specs.Terms.{entry}
 use Rattle.colour_samples.specs.Nine.{NineMost}
@@ -15,21 +16,17 @@ use Rattle.colour_solve.specs.Shift.{params_of}
 use Rattle.colour_solve.specs.Small.{is_small}
 use Rattle.colour_params.proofs.Samples.{sampled-none, sampled-bad, sampled-large, sampled-done}
 use Rattle.colour_params.proofs.sampled.Goals as goal
-use Rattle.numbers.specs.Answer.{done}
 
 pub returns-then-n-eq0 : goal.returns-then-n-eq0
 returns-then-n-eq0 c =
     let a = c.args in
-    c.accepted.ensures
-    ∙ (λ j. record { answer = done; params = c.flat.ensures j })
-    ∙ sampled-none (entry a.luma.now) (entry a.chroma.now) a.w a.direction a.d (sym c.count_of-n.ensures ∙ c.if-n-eq0.true)
+    ap Ok c.flat.ensures ∙ sampled-none (entry a.luma.now) (entry a.chroma.now) a.w a.direction a.d (sym c.count_of-n.ensures ∙ c.if-n-eq0.true)
 
 pub returns-in_default : goal.returns-in_default
 returns-in_default c =
     let a = c.args in
     let e = c.gather-g.ensures ∙ ap (λ d. gathered d a.direction (entry a.luma.now) (entry a.chroma.now) a.w) c.of.ensures.0 in
-    c.refused.ensures
-    ∙ sampled-bad (entry a.luma.now) (entry a.chroma.now) a.w a.direction a.d
+    sampled-bad (entry a.luma.now) (entry a.chroma.now) a.w a.direction a.d
     (gathered_none a.d a.direction (entry a.luma.now) (entry a.chroma.now) a.w (sym e ∙ c.in_default.is))
 
 pub returns-then-not-is_small : goal.returns-then-not-is_small
@@ -38,8 +35,7 @@ returns-then-not-is_small c =
     let e = c.gather-g.ensures ∙ ap (λ d. gathered d a.direction (entry a.luma.now) (entry a.chroma.now) a.w) c.of.ensures.0 in
     let both = gathered-sums a.d a.direction (entry a.luma.now) (entry a.chroma.now) a.w c.in-Sums.s (sym e ∙ c.in-Sums.is) in
     let small = c.is_small.ensures ∙ ap is_small both.1 in
-    c.refused-then-not-is_small.ensures
-    ∙ sampled-large (entry a.luma.now) (entry a.chroma.now) a.w a.direction a.d both.0 (sym small ∙ c.if-not-is_small.true)
+    sampled-large (entry a.luma.now) (entry a.chroma.now) a.w a.direction a.d both.0 (sym small ∙ c.if-not-is_small.true)
 
 pub params_of-requires : goal.params_of-requires
 params_of-requires c =
@@ -60,7 +56,6 @@ returns c =
     let e = c.gather-g.ensures ∙ ap (λ d. gathered d a.direction (entry a.luma.now) (entry a.chroma.now) a.w) c.of.ensures.0 in
     let both = gathered-sums a.d a.direction (entry a.luma.now) (entry a.chroma.now) a.w c.in-Sums.s (sym e ∙ c.in-Sums.is) in
     let small = c.is_small.ensures ∙ ap is_small both.1 in
-    c.accepted-2.ensures
-    ∙ sampled-done (entry a.luma.now) (entry a.chroma.now) a.w a.direction a.d c.params_of.result both.0
+    sampled-done (entry a.luma.now) (entry a.chroma.now) a.w a.direction a.d c.params_of.result both.0
     (sym small ∙ c.if-not-is_small.false)
     (c.params_of.ensures ∙ (λ j. params_of a.d (c.count_of-n.ensures j) (both.1 j)))
