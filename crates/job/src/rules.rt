@@ -3,7 +3,7 @@ ghost use Rattle.std.specs.Prelude.{◌≡◌, length};
 ghost use Rattle.job.specs.Rules.{row_answer};
 ghost use Rattle.job.specs.Job.{job_with, read_row};
 
-use crate::job::{FoundJob, Job};
+use crate::job::Job;
 use crate::{mode, row};
 use block_spec::answer;
 use block_spec::spec::IntraRefSpec;
@@ -28,26 +28,18 @@ fn job_of(spec: IntraRefSpec, mode: Mode, row: &[u16]) -> Job
 }
 
 // The job of a row that names it, or the refusal.
-pub fn read_row(width: usize, height: usize, n: usize, row: &[u16]) -> FoundJob
+pub fn read_row(width: usize, height: usize, n: usize, row: &[u16]) -> Result<Job, Refusal>
     requires { length row.now ≡ 16 }
     ensures { result ≡ read_row width height n row.now }
 {
     let s = row::spec_of(row);
-    let sizes = answer::size_answer(s);
-    if !sizes.is_done() {
-        return FoundJob::Refused(sizes);
-    }
-    let FoundMode::Is(mode) = mode::mode_of(row) else {
-        return FoundJob::Refused(Answer::BadMode);
-    };
-    let places = answer::place_answer(width, height, s);
-    if !places.is_done() {
-        return FoundJob::Refused(places);
-    }
+    answer::size_answer(s)?;
+    let mode = mode::mode_of(row)?;
+    answer::place_answer(width, height, s)?;
     if !row::has_differences(n, row) {
-        return FoundJob::Refused(Answer::NoDifferences);
+        return Err(Refusal::NoDifferences);
     }
-    FoundJob::Is(job_of(s, mode, row))
+    Ok(job_of(s, mode, row))
 }
 
 // What the rules 1 to 7 answer.
@@ -55,8 +47,6 @@ pub fn row_answer(width: usize, height: usize, n: usize, row: &[u16]) -> Answer
     requires { length row.now ≡ 16 }
     ensures { result ≡ row_answer width height n row.now }
 {
-    match read_row(width, height, n, row) {
-        FoundJob::Is(_) => Ok(()),
-        FoundJob::Refused(answer) => answer,
-    }
+    read_row(width, height, n, row)?;
+    Ok(())
 }

@@ -65,6 +65,15 @@ look-no number none (d ∷ es) n {r = r} h = go (eqb n (number d)) (look-no numb
     go true later h = absurd (err-ok r d (sym h))
     go false later h = later h
 
+-- and then its refusal is the one that stands for none
+pub look-refused : {E R : Type 0} (number : E → ℕ) (none : R) (es : List E) (n : ℕ) {r : R} → look number Ok (Err none) es n ≡ Err r → r ≡ none
+look-refused number none [] n {r = r} h = err-same r none (sym h)
+look-refused number none (d ∷ es) n {r = r} h = go (eqb n (number d)) (look-refused number none es n) h
+  where
+    go : (t : Bool) → (look number Ok (Err none) es n ≡ Err r → r ≡ none) → cond t (Ok d) (look number Ok (Err none) es n) ≡ Err r → r ≡ none
+    go true later h = absurd (err-ok r d (sym h))
+    go false later h = later h
+
 -- a lookup that a `?` ends is a rule that is broken
 pub look-else : {E R A : Type 0} (number : E → ℕ) (none : R) (es : List E) (n : ℕ) {r : R} (later : Result A R)
     → Err r ≡ look number Ok (Err none) es n → Err r ≡ cond (among number es n) later (Err none)

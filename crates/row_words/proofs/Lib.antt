@@ -3,4 +3,5 @@ pub mod Dirs
 pub mod Named
 pub mod Angle
 pub mod Modes
+pub mod Refused
 pub mod Place

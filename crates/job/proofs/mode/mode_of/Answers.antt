@@ -8,15 +8,16 @@ use Rattle.row_words.specs.declared.word.Word.TheVariants.{FlagWord, ModeWord, D
 use Rattle.job.specs.Row.{word}
 use Rattle.row_words.specs.Mode.{named_mode}
 use Rattle.job.specs.Mode.{row_mode}
-use Rattle.row_words.specs.declared.mode.FoundMode.TheVariants.{NoMode}
+use Rattle.std.specs.Prelude.{Err}
+use Rattle.numbers.specs.declared.answer.Refusal.TheVariants.{BadMode}
 use Rattle.job.proofs.mode.mode_of.Goals as goal
 
 -- by the test of the flags
 by_flags : (row : List ℕ) (w : ℕ) (r b : Bool) → w ≡ word row FlagWord → r ≡ no_stray w → r ≡ b
-    → row_mode row ≡ cond b (named_mode (word row ModeWord) (word row DirectionWord) (word row DeltaWord)) NoMode
+    → row_mode row ≡ cond b (named_mode (word row ModeWord) (word row DirectionWord) (word row DeltaWord)) (Err BadMode)
 unfolding row_mode
 by_flags row w r b e t q =
-    ap (λ s. cond s (named_mode (word row ModeWord) (word row DirectionWord) (word row DeltaWord)) NoMode)
+    ap (λ s. cond s (named_mode (word row ModeWord) (word row DirectionWord) (word row DeltaWord)) (Err BadMode))
     (ap no_stray (sym e) ∙ sym t ∙ q)
 
 pub returns-then-not-no_stray : goal.returns-then-not-no_stray

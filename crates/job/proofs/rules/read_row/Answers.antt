@@ -1,61 +1,57 @@
 -- `read_row` meets its contract: each test is the ladder's, in its order, and what is read is the row's job. Assumes nothing.
-use borrow.Author.Rules.{rules}
-use mathlib.Core.Bool.{true}
-use mathlib.Core.Path.{◌≡◌, refl, sym, ◌∙◌, ap}
-use Rattle.numbers.specs.Answer.{is_done}
+use mathlib.Core.Path.{sym, ◌∙◌, ap}
 use Rattle.numbers.specs.Depth.{is_depth}
-use Rattle.row_words.specs.Mode.{is_found}
-use Rattle.refusals.proofs.Ladder.{kept, broken, all_of, segment-kept, segment-broken}
-use Rattle.job.specs.Mode.{is_mode}
+use Rattle.numbers.proofs.Look.{passed_on}
+use Rattle.refusals.proofs.Ladder.{kept, broken, all-ok, segment-err}
 use Rattle.job.specs.Job.{job_with, mode_in}
 use Rattle.job.proofs.Read.{reads-no, reads-yes}
-use Rattle.job.proofs.rules.read_row.Answers.Passed.{sizes, places, last, late, none, sizes-are, places-are, tested, two, three, six}
-use Rattle.refusals.specs.Ladder.{ladder}
+use Rattle.job.proofs.rules.read_row.Answers.Passed.{sizes, places, last, late, none, sizes-are, places-are, two, no_mode, three, six}
 use Rattle.job.proofs.rules.read_row.Goals as goal
 mod Passed
 
-pub returns-then-not-is_done : goal.returns-then-not-is_done
-returns-then-not-is_done c =
-    let a = sizes-are c.args.width c.args.height c.args.n c.args.row.now _ _ c.spec_of-s.ensures c.size_answer-sizes.ensures in
-    let no = tested _ _ _ _ a c.is_done.ensures c.if-not-is_done.true in
-    reads-no _ _ _ _ _ (a ∙ segment-broken (sizes c.args.width c.args.height c.args.n c.args.row.now) (late c.args.width c.args.height c.args.n c.args.row.now) no (none c.args.width c.args.height c.args.n c.args.row.now)) (ap is_done a ∙ no)
+pub returns-in_err-size_answer : goal.returns-in_err-size_answer
+returns-in_err-size_answer c =
+    let a = c.args in
+    let e = sizes-are a.width a.height a.n a.row.now _ _ c.spec_of-s.ensures c.in_err-size_answer.ensures in
+    passed_on _ c.from_residual.ensures.1
+    ∙ reads-no _ _ _ _ (segment-err (sizes a.width a.height a.n a.row.now) (late a.width a.height a.n a.row.now) e (none a.width a.height a.n a.row.now))
 
-pub returns-in_default : goal.returns-in_default
-unfolding is_mode is_done
-returns-in_default c =
-    let a = sizes-are c.args.width c.args.height c.args.n c.args.row.now _ _ c.spec_of-s.ensures c.size_answer-sizes.ensures in
-    let k : is_done (ladder (sizes c.args.width c.args.height c.args.n c.args.row.now)) ≡ true = tested _ _ _ _ a c.is_done.ensures c.if-not-is_done.false in
-    reads-no _ _ _ _ _ (broken _ _ _ _ (ap is_found (sym c.mode_of.ensures ∙ c.in_default.is)) (two c.args.width c.args.height c.args.n c.args.row.now k)) refl
+pub returns-in_err-mode : goal.returns-in_err-mode
+returns-in_err-mode c =
+    let a = c.args in
+    let e = sizes-are a.width a.height a.n a.row.now _ _ c.spec_of-s.ensures c.in_ok-size_answer.ensures in
+    passed_on _ c.from_residual-in_err-mode.ensures.1 ∙ reads-no _ _ _ _ (no_mode a.width a.height a.n a.row.now e c.in_err-mode.ensures)
 
-pub place_answer-places-requires : goal.place_answer-places-requires
-place_answer-places-requires c =
-    let a = sizes-are c.args.width c.args.height c.args.n c.args.row.now _ _ c.spec_of-s.ensures c.size_answer-sizes.ensures in
-    let k : is_done (ladder (sizes c.args.width c.args.height c.args.n c.args.row.now)) ≡ true = tested _ _ _ _ a c.is_done.ensures c.if-not-is_done.false in
-    ap (λ s. is_depth s.d) c.spec_of-s.ensures ∙ (all_of (sizes c.args.width c.args.height c.args.n c.args.row.now) k).1.0
+pub place_answer-requires : goal.place_answer-requires
+place_answer-requires c =
+    let a = c.args in
+    let e = sizes-are a.width a.height a.n a.row.now _ _ c.spec_of-s.ensures c.in_ok-size_answer.ensures in
+    ap (λ s. is_depth s.d) c.spec_of-s.ensures ∙ (all-ok (sizes a.width a.height a.n a.row.now) e).1.0
 
-pub returns-then-not-is_done-2 : goal.returns-then-not-is_done-2
-returns-then-not-is_done-2 c =
-    let a = sizes-are c.args.width c.args.height c.args.n c.args.row.now _ _ c.spec_of-s.ensures c.size_answer-sizes.ensures in
-    let k : is_done (ladder (sizes c.args.width c.args.height c.args.n c.args.row.now)) ≡ true = tested _ _ _ _ a c.is_done.ensures c.if-not-is_done.false in
-    let p = places-are c.args.width c.args.height c.args.n c.args.row.now _ _ c.spec_of-s.ensures c.place_answer-places.ensures in
-    let no = tested _ _ _ _ p c.is_done-2.ensures c.if-not-is_done-2.true in
-    reads-no _ _ _ _ _ (p ∙ segment-broken (places c.args.width c.args.height c.args.n c.args.row.now) (last c.args.width c.args.height c.args.n c.args.row.now) no (three c.args.width c.args.height c.args.n c.args.row.now k _ (sym c.mode_of.ensures ∙ c.in-Is.is))) (ap is_done p ∙ no)
+pub returns-in_err-place_answer : goal.returns-in_err-place_answer
+returns-in_err-place_answer c =
+    let a = c.args in
+    let e = sizes-are a.width a.height a.n a.row.now _ _ c.spec_of-s.ensures c.in_ok-size_answer.ensures in
+    let p = places-are a.width a.height a.n a.row.now _ _ c.spec_of-s.ensures c.in_err-place_answer.ensures in
+    passed_on _ c.from_residual-in_err-place_answer.ensures.1
+    ∙ reads-no _ _ _ _
+    (segment-err (places a.width a.height a.n a.row.now) (last a.width a.height a.n a.row.now) p
+    (three a.width a.height a.n a.row.now e _ c.in_ok-mode.ensures))
 
 pub returns-then-not-has_differences : goal.returns-then-not-has_differences
-unfolding is_done
 returns-then-not-has_differences c =
-    let a = sizes-are c.args.width c.args.height c.args.n c.args.row.now _ _ c.spec_of-s.ensures c.size_answer-sizes.ensures in
-    let k : is_done (ladder (sizes c.args.width c.args.height c.args.n c.args.row.now)) ≡ true = tested _ _ _ _ a c.is_done.ensures c.if-not-is_done.false in
-    let p = places-are c.args.width c.args.height c.args.n c.args.row.now _ _ c.spec_of-s.ensures c.place_answer-places.ensures in
-    let q : is_done (ladder (places c.args.width c.args.height c.args.n c.args.row.now)) ≡ true = tested _ _ _ _ p c.is_done-2.ensures c.if-not-is_done-2.false in
-    reads-no _ _ _ _ _ (broken _ _ _ _ (sym c.has_differences.ensures ∙ c.if-not-has_differences.true) (six c.args.width c.args.height c.args.n c.args.row.now k _ (sym c.mode_of.ensures ∙ c.in-Is.is) q)) refl
+    let a = c.args in
+    let e = sizes-are a.width a.height a.n a.row.now _ _ c.spec_of-s.ensures c.in_ok-size_answer.ensures in
+    let p = places-are a.width a.height a.n a.row.now _ _ c.spec_of-s.ensures c.in_ok-place_answer.ensures in
+    reads-no _ _ _ _
+    (broken _ _ _ _ (sym c.has_differences.ensures ∙ c.if-not-has_differences.true) (six a.width a.height a.n a.row.now e _ c.in_ok-mode.ensures p))
 
 pub returns : goal.returns
 returns c =
-    let a = sizes-are c.args.width c.args.height c.args.n c.args.row.now _ _ c.spec_of-s.ensures c.size_answer-sizes.ensures in
-    let k : is_done (ladder (sizes c.args.width c.args.height c.args.n c.args.row.now)) ≡ true = tested _ _ _ _ a c.is_done.ensures c.if-not-is_done.false in
-    let p = places-are c.args.width c.args.height c.args.n c.args.row.now _ _ c.spec_of-s.ensures c.place_answer-places.ensures in
-    let q : is_done (ladder (places c.args.width c.args.height c.args.n c.args.row.now)) ≡ true = tested _ _ _ _ p c.is_done-2.ensures c.if-not-is_done-2.false in
-    let mode-is = (sym c.mode_of.ensures ∙ c.in-Is.is) in
-    reads-yes _ _ _ _ (sym (kept _ _ _ _ (sym c.has_differences.ensures ∙ c.if-not-has_differences.false) (six c.args.width c.args.height c.args.n c.args.row.now k _ mode-is q))) _
-    (c.job_of.ensures ∙ (λ j. job_with (c.spec_of-s.ensures j) (mode_in (sym mode-is j)) c.args.row.now))
+    let a = c.args in
+    let e = sizes-are a.width a.height a.n a.row.now _ _ c.spec_of-s.ensures c.in_ok-size_answer.ensures in
+    let p = places-are a.width a.height a.n a.row.now _ _ c.spec_of-s.ensures c.in_ok-place_answer.ensures in
+    reads-yes _ _ _ _
+    (sym (kept _ _ _ _ (sym c.has_differences.ensures ∙ c.if-not-has_differences.false) (six a.width a.height a.n a.row.now e _ c.in_ok-mode.ensures p)))
+    _
+    (c.job_of.ensures ∙ (λ j. job_with (c.spec_of-s.ensures j) (mode_in (c.in_ok-mode.ensures j)) a.row.now))
