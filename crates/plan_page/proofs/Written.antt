@@ -4,7 +4,7 @@ use mathlib.Core.List.{List}
 use Prim.Native.Nat.{ℕ, ◌*◌, ◌<◌, ◌≤◌}
 use lib.ListN.{length, get_or}
 use Rattle.numbers.specs.Limits.{most_jobs}
-use Rattle.numbers.specs.Answer.{is_done, done}
+use Rattle.numbers.specs.Answer.{done}
 use Rattle.block_image.specs.Image.{rows_in, image}
 use Rattle.block_image.specs.Taken.{WholeFile}
 use Rattle.block_image.specs.Fits.{Fits}
@@ -23,7 +23,6 @@ file-done F bytes good = read-accepted F bytes good (most_jobs * F.words) 1 (roo
 module _ (F : Format) (fit : Fits F) (plan : List ℕ) (small : (i : ℕ) → get_or plan i 0 < 65536)
     (whole : length plan ≡ rows_in F plan * F.words) (few : rows_in F plan ≤ most_jobs) where
   pub page-written : page_of F (image F plan) ≡ lines_of F plan
-  unfolding is_done
   page-written =
-      page-accepted F (image F plan) (ap is_done (file-done F (image F plan) (accepted F fit plan small whole few)))
+      page-accepted F (image F plan) (file-done F (image F plan) (accepted F fit plan small whole few))
       ∙ ap (lines_of F) (reads-back F fit plan small whole few)

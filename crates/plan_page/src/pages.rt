@@ -1,7 +1,7 @@
 // The page of a file of any format that fits: the lines of its plan, or the number of its refusal.
 ghost use Rattle.std.specs.Prelude.{◌≡◌, [], ◌∷◌, ◌++◌, ◌+◌, ◌*◌, ◌≤◌, length};
 ghost use Rattle.numbers.specs.Limits.{most_jobs};
-ghost use Rattle.numbers.specs.Answer.{answer_number};
+ghost use Rattle.numbers.specs.Answer.{refusal_number};
 ghost use Rattle.block_image.specs.Fits.{Fits};
 ghost use Rattle.plan_page.specs.Page.{line_end, decimal};
 ghost use Rattle.plan_page.specs.Promises.{page_lists, ShowPage};
@@ -10,14 +10,14 @@ ghost use Rattle.plan_page.specs.Put.{Put};
 use crate::{line, put};
 use block_image::format::Format;
 use block_reader::read::read_blocks;
-use numbers::answer::Answer;
+use numbers::answer::Refusal;
 
 // The number of a refusal, and a line end.
-fn put_refusal(answer: Answer, out: &mut [u8]) -> usize
+fn put_refusal(refusal: Refusal, out: &mut [u8]) -> usize
     requires { 6 ≤ length out.old }
-    ensures { Put (decimal (answer_number answer) ++ (line_end ∷ [])) 0 out.old result out.new }
+    ensures { Put (decimal (refusal_number refusal) ++ (line_end ∷ [])) 0 out.old result out.new }
 {
-    let end = put::put_number(answer.number() as u64, out, 0);
+    let end = put::put_number(refusal.number() as u64, out, 0);
     put::put_byte(b'\n', out, end)
 }
 
@@ -27,12 +27,13 @@ pub fn put_page(f: Format, bytes: &[u8], plan: &mut [u16], out: &mut [u8]) -> us
     ensures { ShowPage f bytes.now (page_lists plan.old out.old) (page_lists plan.new out.new) result }
 {
     let mut rows = [0usize; 1];
-    let answer = read_blocks(f, bytes, plan, &mut rows);
-    if !answer.is_done() {
-        return put_refusal(answer, out);
+    match read_blocks(f, bytes, plan, &mut rows) {
+        Err(refusal) => put_refusal(refusal, out),
+        Ok(()) => {
+            let n = rows[0];
+            let words = f.words;
+            let end = n * words;
+            line::put_lines(words, &plan[..end], n, out)
+        }
     }
-    let n = rows[0];
-    let words = f.words;
-    let end = n * words;
-    line::put_lines(words, &plan[..end], n, out)
 }
