@@ -41,5 +41,5 @@ pub fn predict_block(
     };
     colour_rules::refused(luma, b, out.len())?;
     block::predict_into(luma, b, p0, p1, p2, out);
-    answer
+    Ok(())
 }

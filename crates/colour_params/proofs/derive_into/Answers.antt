@@ -2,22 +2,18 @@
 use borrow.Author.Rules.{rules}
 use borrow.Author.Tests.{leb-true}
 use native.Mathlib.Omega.{arith}
-use mathlib.Core.Path.{◌≡◌, refl, sym, ◌∙◌, ap}
+use mathlib.Core.Path.{◌≡◌, sym, ◌∙◌, ap}
 use lib.ListN.{set, length-set}
 use mir.Syntax.{w32}
 use mir.Val.{to_z, of_z}
-use Rattle.numbers.specs.Answer.{is_done}
-use Rattle.numbers.proofs.Look.{passed_on}
-use Rattle.numbers.proofs.Named.{refusal-not-done}
-use Rattle.refusals.proofs.Promise.{refused, finished}
+use Rattle.refusals.proofs.Promise.{passes-on, comes-to}
 use Rattle.colour_params.specs.Derived.{written}
 use Rattle.colour_params.proofs.Answers.{room-kept, derived-err, derived-ok, three-stores}
 use Rattle.colour_params.proofs.derive_into.Goals as goal
 
 pub returns-in_err-p : goal.returns-in_err-p
 returns-in_err-p c =
-    let r = passed_on _ c.from_residual.ensures.1 in
-    refused _ _ (r ∙ derived-err _ _ _ _ _ _ _ c.in_err-p.ensures) (ap is_done r ∙ refusal-not-done _)
+    passes-on _ _ _ c.from_residual.ensures.1 (derived-err _ _ _ _ _ _ _ c.in_err-p.ensures)
 
 pub bounds-params-0 : goal.bounds-params-0
 bounds-params-0 c =
@@ -35,7 +31,6 @@ bounds-params-2 c =
     simp (length-set, length-set) (omega arith)
 
 pub returns : goal.returns
-unfolding is_done
 returns c =
     let p = c.in_ok-p.p in
     let xs = c.args.params.now in
@@ -44,5 +39,5 @@ returns c =
     let x1 : to_z w32 (of_z w32 p.x1) ≡ p.x1 = search rules in
     let x2 : to_z w32 (of_z w32 p.x2) ≡ p.x2 = search rules in
     let k = leb-true _ _ (room-kept _ _ _ _ _ _ (sym d.0)) in
-    finished _ _ d.0 refl
+    comes-to _ _ d.0
     ((λ j. set (set (set xs 0 (x0 j)) 1 (x1 j)) 2 (x2 j)) ∙ three-stores p xs k ∙ ap (λ r. written r xs) d.1)
