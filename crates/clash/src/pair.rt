@@ -12,8 +12,7 @@ pub fn stands(width: usize, height: usize, n: usize, row: &[u16]) -> bool
     requires { length row.now ≡ 16 }
     ensures { result ≡ stands width height n row.now }
 {
-    let answer = rules::row_answer(width, height, n, row);
-    answer.is_done()
+    rules::row_answer(width, height, n, row).is_ok()
 }
 
 // Whether two rows clash; one that fails 1 to 7 touches nothing.

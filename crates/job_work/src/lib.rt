@@ -13,7 +13,7 @@ ghost use Rattle.job_work.specs.Done.{JobDone};
 ghost use Rattle.job_work.specs.Granted.{Tested, Granted, read_answer, read_done};
 
 use block_spec::answer;
-use job::job::{FoundJob, Job};
+use job::job::Job;
 use neighbours::{fill, reads};
 use numbers::answer::{Answer, Refusal};
 
@@ -103,8 +103,6 @@ pub fn do_job(
     requires above_len { (length above.old ≡ 128) × (length left.old ≡ 128) × (length out.old ≡ 4096) }
     ensures { JobDone width height differences.now row.now plane.old plane.new result }
 {
-    match job::rules::read_row(width, height, differences.len(), row) {
-        FoundJob::Refused(answer) => answer,
-        FoundJob::Is(job) => do_read(plane, width, job, differences, above, left, out),
-    }
+    let job = job::rules::read_row(width, height, differences.len(), row)?;
+    do_read(plane, width, job, differences, above, left, out)
 }

@@ -22,25 +22,26 @@ use Rattle.row_words.specs.Mode.{named_mode, DeltaInRange}
 use Rattle.job.specs.Mode.{row_mode}
 use Rattle.job.specs.Job.{mode_in}
 use Rattle.job.specs.declared.job.Job.{Job}
-use Rattle.row_words.specs.declared.mode.FoundMode.{FoundMode}
-use Rattle.row_words.specs.declared.mode.FoundMode.TheVariants.{Is, NoMode}
+use Rattle.std.specs.Prelude.{Result, Ok, Err}
+use Rattle.numbers.specs.declared.answer.Refusal.{Refusal}
+use Rattle.numbers.specs.declared.answer.Refusal.TheVariants.{BadMode}
 use Rattle.modes.specs.Predictor.{predictor_by, predictor_of}
 use Rattle.modes.specs.Ready.{Ready, predicted_block}
 
 -- ---- the mode of a row: a direction's delta is -3 to 3
 
-found-turns : (mode direction delta : ℕ) (f : FoundMode) → named_mode mode direction delta ≡ f → DeltaInRange (mode_in f)
-found-turns mode direction delta (Is m) e = (mode-back mode direction delta m e).1
-found-turns mode direction delta NoMode e = tt
+found-turns : (mode direction delta : ℕ) (f : Result Mode Refusal) → named_mode mode direction delta ≡ f → DeltaInRange (mode_in f)
+found-turns mode direction delta (Ok m) e = (mode-back mode direction delta m e).1
+found-turns mode direction delta (Err _) e = tt
 
 pub mode-turns : (row : Row) → DeltaInRange (mode_in (row_mode row))
 unfolding row_mode
 mode-turns row = go (no_stray (word row FlagWord))
   where
-    named : FoundMode
+    named : Result Mode Refusal
     named = named_mode (word row ModeWord) (word row DirectionWord) (word row DeltaWord)
 
-    go : (t : Bool) → DeltaInRange (mode_in (cond t named NoMode))
+    go : (t : Bool) → DeltaInRange (mode_in (cond t named (Err BadMode)))
     go true = found-turns (word row ModeWord) (word row DirectionWord) (word row DeltaWord) named refl
     go false = tt
 

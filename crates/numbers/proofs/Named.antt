@@ -3,7 +3,7 @@ use mathlib.Core.Path.{◌≡◌, refl, sym, ◌∙◌, ap}
 use mathlib.Core.Bool.{true, false}
 use Prim.Native.Nat.{ℕ}
 use borrow.Author.Tests.{eqb-true, eq-eqb}
-use Rattle.std.specs.Prelude.{⊤, Ok, Err, Some, None}
+use Rattle.std.specs.Prelude.{⊤, Ok, Err, Some, None, is_ok}
 use Rattle.std.proofs.lemmas.Option.{same_Some, none-some}
 use Rattle.numbers.specs.Answer.{Answer, done, refusal_number, answer_number, answers, answer_of, is_done}
 use Rattle.numbers.specs.declared.answer.Refusal.{Refusal}
@@ -83,6 +83,10 @@ ok-done e = ap is_done (sym e)
 
 pub err-refused : {a : Answer} {r : Refusal} → Err r ≡ a → is_done a ≡ false
 err-refused {r = r} e = ap is_done (sym e) ∙ refusal-not-done r
+
+pub ok-is-done : (a : Answer) → is_ok a ≡ is_done a
+ok-is-done (Ok _) = sym (ok-done refl)
+ok-is-done (Err r) = sym (refusal-not-done r)
 
 -- the answer by its number, both ways
 pub done-number : (a : Answer) → is_done a ≡ true → answer_number a ≡ answer_number done

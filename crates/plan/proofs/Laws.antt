@@ -26,6 +26,7 @@ use Rattle.run_rules.specs.Rules.{is_plan, run_rules, run_answer}
 use Rattle.plan.specs.Run.{Memory, in_order, plan_order, answer_for}
 use Rattle.plan.proofs.Reorder.{once-exact, kept-exact, ready}
 use Rattle.numbers.specs.Answer.{done}
+use Rattle.std.specs.Prelude.{Err}
 
 -- ---- which orders are accepted, and what 22 and 23 say
 
@@ -41,10 +42,10 @@ module _ (W H : ℕ) (differences : List ℤ) (plan order : List ℕ) (before : 
     λ a. by_tests ∙ rw ((once-exact W H differences plan order).1 a.once, (kept-exact W H differences plan order).1 a.kept),
   )
 
-  pub number-22 : (answer_for W H differences plan order before ≡ NotEachOnce) ↔ (¬ (Once (jobs_in plan) order))
+  pub number-22 : (answer_for W H differences plan order before ≡ Err NotEachOnce) ↔ (¬ (Once (jobs_in plan) order))
   number-22 = rw by_tests (verdict-22 _ _ _ _ (once-exact W H differences plan order) (kept-exact W H differences plan order))
 
-  pub number-23 : (answer_for W H differences plan order before ≡ PairTurned)
+  pub number-23 : (answer_for W H differences plan order before ≡ Err PairTurned)
       ↔ (Once (jobs_in plan) order × ¬ (Kept (jobs W H differences) (row_at plan) (jobs_in plan) order))
   number-23 = rw by_tests (verdict-23 _ _ _ _ (once-exact W H differences plan order) (kept-exact W H differences plan order))
 

@@ -2,6 +2,8 @@
 ghost use Rattle.std.specs.Prelude.{◌≡◌, length};
 ghost use Rattle.plan.specs.Run.{DoneInOrder, Rows};
 
+use numbers::answer::number;
+
 // The rows that the order names, one after the other, with room for the edges and a predicted block.
 fn run_rows(
     plane: &mut [f32],
@@ -19,9 +21,8 @@ fn run_rows(
     requires above_len { (length above.old ≡ 128) × (length left.old ≡ 128) × (length out.old ≡ 4096) }
     ensures { DoneInOrder width height differences.now plan.now order.now plane.old answers.old plane.new answers.new }
 {
-    let mut k = 0;
-    while k < order.len() {
-        let i = order[k] as usize;
+    for &entry in order {
+        let i = entry as usize;
         let o = 16 * i;
         let e = o + 16;
         let answer = job_work::do_job(
@@ -34,8 +35,7 @@ fn run_rows(
             left,
             out,
         );
-        answers[i] = answer.number() as u16;
-        k += 1;
+        answers[i] = number(answer) as u16;
     }
 }
 

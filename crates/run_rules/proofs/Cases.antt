@@ -20,6 +20,7 @@ use Rattle.job.specs.Rules.{has_differences, row_answer, stands}
 use Rattle.touches.specs.Rects.{reads_of, writes_of, clash_of}
 use Rattle.order.specs.Rules.{is_once, is_kept}
 use Rattle.run_rules.specs.Rules.{is_plan, run_answer}
+use Rattle.std.specs.Prelude.{Err}
 
 -- a block of side B with no neighbours, at column x; and one whose left neighbour is there
 abbrev alone : ℕ → ℕ → List ℕ
@@ -35,6 +36,6 @@ answer_of B order = run_answer 16 4 64 16 (alone 0 B ++ (beside 4 ++ alone 12 4)
 -- the plan's own order; another; the touching pair turned round; a row twice; the same pair where the left block's side is 5, which fails 1 and
 -- touches nothing
 pub cases : (answer_of 4 (0 ∷ 1 ∷ 2 ∷ []) ∷ answer_of 4 (2 ∷ 0 ∷ 1 ∷ []) ∷ answer_of 4 (1 ∷ 0 ∷ 2 ∷ []) ∷ answer_of 4 (0 ∷ 0 ∷ 2 ∷ []) ∷ answer_of 5 (1 ∷ 0 ∷ 2 ∷ []) ∷ [])
-    ≡ (done ∷ done ∷ PairTurned ∷ NotEachOnce ∷ done ∷ [])
+    ≡ (done ∷ done ∷ Err PairTurned ∷ Err NotEachOnce ∷ done ∷ [])
 unfolding run_answer is_plane is_plan is_once is_kept once_b kept_b all_below count place clash_of clash_b cross_b meet_any_b meet_b reads_of writes_of stands row_answer is_size is_depth is_mode row_mode named_mode is_dir is_delta no_stray is_set is_inside has_neighbours is_reach is_base has_differences is_done
 cases = refl

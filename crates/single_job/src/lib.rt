@@ -6,18 +6,32 @@ ghost use Rattle.refusals.specs.Promise.{Promise};
 ghost use Rattle.job_work.specs.Granted.{Tested, read_answer, read_done};
 ghost use Rattle.single_job.specs.Single.{SingleDone};
 
-use job::job::{FoundJob, Job};
+use job::job::Job;
 use numbers::answer::{Answer, Refusal};
 use row_words::word::Word;
 
-// A job that 1 to 7 do not refuse, with room for its prediction: the edges have theirs here.
-fn edged(plane: &mut [f32], width: usize, job: Job, differences: &[i16], out: &mut [f32]) -> Answer
-    requires { Tested width (length differences.now) (length plane.old) job × (job.spec.b * job.spec.b ≤ length out.old) }
+// A job that 1 to 7 do not refuse, with room for N samples of its prediction, and for its edges.
+fn with_room<const N: usize>(
+    plane: &mut [f32],
+    width: usize,
+    job: Job,
+    differences: &[i16],
+) -> Answer
+    requires { Tested width (length differences.now) (length plane.old) job × (job.spec.b * job.spec.b ≤ N) × (N ≤ 4096) }
     ensures { Promise (read_answer width job plane.old) (read_done width differences.now job plane.old) result plane.new }
 {
     let mut above = [0i32; 128];
     let mut left = [0i32; 128];
-    job_work::do_read(plane, width, job, differences, &mut above, &mut left, out)
+    let mut out = [0.0f32; N];
+    job_work::do_read(
+        plane,
+        width,
+        job,
+        differences,
+        &mut above,
+        &mut left,
+        &mut out,
+    )
 }
 
 // A job that 1 to 7 do not refuse, with a room of its size class: clearing a large one would cost more than a small job.
@@ -25,21 +39,15 @@ pub fn alone(plane: &mut [f32], width: usize, job: Job, differences: &[i16]) -> 
     requires { Tested width (length differences.now) (length plane.old) job }
     ensures { Promise (read_answer width job plane.old) (read_done width differences.now job plane.old) result plane.new }
 {
-    let s = job.spec;
-    if s.b <= 8 {
-        let mut out = [0.0f32; 64];
-        return edged(plane, width, job, differences, &mut out);
+    if job.spec.b <= 8 {
+        with_room::<64>(plane, width, job, differences)
+    } else if job.spec.b <= 16 {
+        with_room::<256>(plane, width, job, differences)
+    } else if job.spec.b <= 32 {
+        with_room::<1024>(plane, width, job, differences)
+    } else {
+        with_room::<4096>(plane, width, job, differences)
     }
-    if s.b <= 16 {
-        let mut out = [0.0f32; 256];
-        return edged(plane, width, job, differences, &mut out);
-    }
-    if s.b <= 32 {
-        let mut out = [0.0f32; 1024];
-        return edged(plane, width, job, differences, &mut out);
-    }
-    let mut out = [0.0f32; 4096];
-    edged(plane, width, job, differences, &mut out)
 }
 
 // A single job: done, with its block written, or a refusal, with nothing written.
@@ -58,8 +66,6 @@ pub fn run_job(
     if row.len() != Word::COUNT {
         return Err(Refusal::BadPlan);
     }
-    match job::rules::read_row(width, height, differences.len(), row) {
-        FoundJob::Refused(answer) => answer,
-        FoundJob::Is(job) => alone(plane, width, job, differences),
-    }
+    let job = job::rules::read_row(width, height, differences.len(), row)?;
+    alone(plane, width, job, differences)
 }

@@ -25,6 +25,7 @@ use Rattle.tower_rules.specs.Rules.{are_planes, is_tower_plan, tower_run_rules, 
 use Rattle.tower_plan.specs.Run.{TowerMemory, tower_in_order, tower_plan_order, tower_answer_for}
 use Rattle.tower_plan.proofs.Reorder.{tower-once-exact, tower-kept-exact, ready}
 use Rattle.numbers.specs.Answer.{done}
+use Rattle.std.specs.Prelude.{Err}
 
 -- ---- which orders are accepted, and what 22 and 23 say
 
@@ -40,10 +41,10 @@ module _ (W H : ℕ) (differences : List ℤ) (plan order : List ℕ) (before : 
     λ a. by_tests ∙ rw ((tower-once-exact W H differences plan order).1 a.once, (tower-kept-exact W H differences plan order).1 a.kept),
   )
 
-  pub number-22 : (tower_answer_for W H differences plan order before ≡ NotEachOnce) ↔ (¬ (Once (tower_jobs_in plan) order))
+  pub number-22 : (tower_answer_for W H differences plan order before ≡ Err NotEachOnce) ↔ (¬ (Once (tower_jobs_in plan) order))
   number-22 = rw by_tests (verdict-22 _ _ _ _ (tower-once-exact W H differences plan order) (tower-kept-exact W H differences plan order))
 
-  pub number-23 : (tower_answer_for W H differences plan order before ≡ PairTurned)
+  pub number-23 : (tower_answer_for W H differences plan order before ≡ Err PairTurned)
       ↔ (Once (tower_jobs_in plan) order × ¬ (Kept (tower_jobs W H differences) (tower_row plan) (tower_jobs_in plan) order))
   number-23 = rw by_tests (verdict-23 _ _ _ _ (tower-once-exact W H differences plan order) (tower-kept-exact W H differences plan order))
 

@@ -1,4 +1,4 @@
--- `run_rows` meets its contract. The invariant: the first k entries of the order are done. Assumes nothing.
+-- `run_rows` meets its contract. Assumes nothing.
 use borrow.Author.Rules.{rules}
 use Prim.Native.Nat.{ℕ, ◌+◌, ◌-◌, ◌*◌}
 use mathlib.Core.List.{List}
@@ -13,19 +13,18 @@ use Rattle.plan.proofs.rows.run_rows.Goals as goal
 row_is : (plan : List ℕ) (i : ℕ) → take (16 * i + 16 - 16 * i) (drop (16 * i) plan) ≡ row_at plan i
 row_is plan i = let e : 16 * i + 16 - 16 * i ≡ 16 = omega arith in ap (λ n. take n (drop (16 * i) plan)) e
 
-pub loop-k-init : goal.loop-k-init
-loop-k-init c =
-    (omega arith, refl, refl, none_done c.args.width c.args.height c.args.differences.now c.args.plan.now c.args.order.now _, c.requires.above_len.0, c.requires.above_len.1, c.requires.above_len.2)
+pub loop-entry-init : goal.loop-entry-init
+loop-entry-init c =
+    (refl, refl, none_done c.args.width c.args.height c.args.differences.now c.args.plan.now c.args.order.now _, c.requires.above_len.0, c.requires.above_len.1, c.requires.above_len.2)
 
-pub loop-k-preserved : goal.loop-k-preserved
-loop-k-preserved c =
+pub loop-entry-preserved : goal.loop-entry-preserved
+loop-entry-preserved c =
     let d = c.do_job-answer.ensures in
-    let v = c.loop-k.invariant in (
-      omega arith,
-      ap length d.holds ∙ keeps c.args.width c.args.height c.args.differences.now _ c.loop-k.plane ∙ v.1,
-      simp length-set v.2,
-      one_more c.args.width c.args.height c.args.differences.now c.args.plan.now c.args.order.now _ c.loop-k.plane _ c.loop-k.answers c.loop-k.k _ _ _
-          c.loop-k-test.true v.3 (row_is c.args.plan.now (get_or c.args.order.now c.loop-k.k 0)) d c.number.ensures,
+    let v = c.loop-entry.invariant in (
+      ap length d.holds ∙ keeps c.args.width c.args.height c.args.differences.now _ c.loop-entry.plane ∙ v.0,
+      simp length-set v.1,
+      one_more c.args.width c.args.height c.args.differences.now c.args.plan.now c.args.order.now _ c.loop-entry.plane _ c.loop-entry.answers c.loop-entry.entry-index _ _ _
+          c.loop-entry-test.true v.2 (row_is c.args.plan.now (get_or c.args.order.now c.loop-entry.entry-index 0)) d c.number.ensures,
       search rules,
       search rules,
       search rules,
