@@ -3,7 +3,9 @@ use mathlib.Core.Path.{◌≡◌, refl, ap}
 use mathlib.Core.Bool.{Bool, true, false, cond}
 use mathlib.Core.List.{[], ◌∷◌, ◌++◌}
 use Prim.Native.Nat.{ℕ}
-use Rattle.numbers.specs.Answer.{is_done}
+use Rattle.std.specs.Prelude.{Err}
+use Rattle.numbers.specs.Answer.{Answer, is_done}
+use Rattle.numbers.proofs.Named.{refusal-not-done}
 use Rattle.numbers.specs.Depth.{is_depth}
 use Rattle.numbers.specs.Size.{is_size}
 use Rattle.numbers.specs.declared.answer.Refusal.TheVariants.{BadSize, BadDepth, BadMode}
@@ -36,17 +38,16 @@ module _ (W H n : ℕ) (row : Row) where
       → tower_answer W H n row ≡ ladder (size_rules (spec_of (base_row row)) ++ (false else BadMode ∷ []))
   tower-not m e = rw (by-base m, e) (go (spec_of (base_row row)) (is_mode (base_row row)))
     where
-      go : (s : IntraRefSpec) (b : Bool) → cond (is_size s.b) (cond (is_depth s.d) (cond b BadMode BadMode) BadDepth) BadSize
-          ≡ cond (is_size s.b) (cond (is_depth s.d) BadMode BadDepth) BadSize
+      go : (s : IntraRefSpec) (b : Bool) → ◌≡◌ {A = Answer} (cond (is_size s.b) (cond (is_depth s.d) (cond b (Err BadMode) (Err BadMode)) (Err BadDepth)) (Err BadSize))
+          (cond (is_size s.b) (cond (is_depth s.d) (Err BadMode) (Err BadDepth)) (Err BadSize))
       go s true = refl
       go s false = refl
 
 -- which is not done
 pub not_done : (s : IntraRefSpec) → is_done (ladder (size_rules s ++ (false else BadMode ∷ []))) ≡ false
-unfolding is_done
 not_done s = go (is_size s.b) (is_depth s.d)
   where
-    go : (a b : Bool) → is_done (cond a (cond b BadMode BadDepth) BadSize) ≡ false
-    go true true = refl
-    go true false = refl
-    go false b = refl
+    go : (a b : Bool) → is_done (cond a (cond b (Err BadMode) (Err BadDepth)) (Err BadSize)) ≡ false
+    go true true = refusal-not-done BadMode
+    go true false = refusal-not-done BadDepth
+    go false b = refusal-not-done BadSize

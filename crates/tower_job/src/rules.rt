@@ -5,7 +5,7 @@ ghost use Rattle.tower_job.specs.Row.{is_colour_mode};
 ghost use Rattle.tower_job.specs.Rules.{span_rules};
 ghost use Rattle.tower_job.specs.Job.{read_tower};
 
-use crate::tower::{FoundTower, TowerJob, TowerMode};
+use crate::tower::{TowerJob, TowerMode};
 use crate::{base, colour, row, tests};
 use colour_terms::reference::Reference;
 use colour_words::ColourWords;
@@ -21,9 +21,7 @@ fn span_answer(width: usize, height: usize, c: ColourWords) -> Answer
     if !tests::is_in_planes(width, height, c) {
         return Err(Refusal::OutsidePlane);
     }
-    let FoundColour::Is(_) = ColourDirection::of(c.direction as u32) else {
-        return Err(Refusal::BadColourDirection);
-    };
+    ColourDirection::try_from(c.direction as u32)?;
     let r = Reference {
         width: c.ref_width as usize,
         height: c.ref_height as usize,
@@ -38,29 +36,24 @@ fn span_answer(width: usize, height: usize, c: ColourWords) -> Answer
 }
 
 // The job of a row in mode 5, or the refusal.
-fn read_colour(width: usize, height: usize, n: usize, row: &[u16]) -> FoundTower
+fn read_colour(width: usize, height: usize, n: usize, row: &[u16]) -> Result<TowerJob, Refusal>
     requires { (length row.now ≡ 32) × (is_colour_mode row.now ≡ true) }
     ensures { result ≡ read_tower width height n row.now }
 {
     let c = colour::colour_of(row);
-    let FoundDepth::Is(_) = Depth::of(c.d) else {
-        return FoundTower::Refused(Answer::BadDepth);
-    };
+    Depth::try_from(c.d)?;
     if !tests::is_tower(row) {
-        return FoundTower::Refused(Answer::BadMode);
+        return Err(Refusal::BadMode);
     }
-    let answer = span_answer(width, height, c);
-    if !answer.is_done() {
-        return FoundTower::Refused(answer);
-    }
-    FoundTower::Is(TowerJob {
+    span_answer(width, height, c)?;
+    Ok(TowerJob {
         plane: row::word(row, TowerWord::PlaneWord),
         mode: TowerMode::Colour(c),
     })
 }
 
 // The job of a row that names it, or the refusal.
-pub fn read_row(width: usize, height: usize, n: usize, row: &[u16]) -> FoundTower
+pub fn read_row(width: usize, height: usize, n: usize, row: &[u16]) -> Result<TowerJob, Refusal>
     requires { length row.now ≡ 32 }
     ensures { result ≡ read_tower width height n row.now }
 {

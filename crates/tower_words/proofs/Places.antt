@@ -4,8 +4,9 @@ use Prim.Native.Nat.{ℕ, ◌+◌, ◌≤◌, ◌<◌}
 use native.Mathlib.Omega.{arith}
 use lib.ListN.{length}
 use Rattle.numbers.specs.Limits.{row_words}
-use Rattle.numbers.specs.Look.{only}
-use Rattle.numbers.proofs.Look.{find-back}
+use Rattle.std.specs.Prelude.{Some, None}
+use Rattle.std.proofs.lemmas.Option.{same_Some, none-some}
+use Rattle.numbers.proofs.Look.{look-back}
 use Rattle.tower_words.specs.Limits.{tower_words}
 use Rattle.tower_words.specs.Word.{tower_place, added_words, tower_word_of}
 use Rattle.tower_words.specs.declared.word.TowerWord.{TowerWord}
@@ -32,7 +33,7 @@ tower-below SpareB = (omega arith, omega arith)
 tower-below SpareC = (omega arith, omega arith)
 tower-below SpareD = (omega arith, omega arith)
 
-pub tower-there : (w : TowerWord) → tower_word_of (tower_place w) ≡ only w
+pub tower-there : (w : TowerWord) → tower_word_of (tower_place w) ≡ Some w
 tower-there PlaneWord = refl
 tower-there ColourWord = refl
 tower-there AboveLines = refl
@@ -50,5 +51,5 @@ tower-there SpareB = refl
 tower-there SpareC = refl
 tower-there SpareD = refl
 
-pub tower-back : (n : ℕ) (w : TowerWord) → tower_word_of n ≡ only w → tower_place w ≡ n
-tower-back n w h = find-back tower_place added_words n w h
+pub tower-back : (n : ℕ) (w : TowerWord) → tower_word_of n ≡ Some w → tower_place w ≡ n
+tower-back n w h = look-back tower_place Some None same_Some none-some added_words n w h

@@ -1,7 +1,7 @@
 -- "plane number, colour direction, above_lines, left_lines, ref_width, ref_height, width, height, luma x and y, have_top and have_left, four zero"
 -- (document 02, request (v)), after the sixteen words of the first library's row.
-use Rattle.std.specs.Prelude.{List, [], ◌∷◌, ℕ}
-use Rattle.numbers.specs.Look.{look, Maybe, only, nothing}
+use Rattle.std.specs.Prelude.{List, [], ◌∷◌, ℕ, Option, Some, None}
+use Rattle.numbers.specs.Look.{look}
 use Rattle.tower_words.specs.declared.word.TowerWord.{TowerWord}
 use Rattle.tower_words.specs.declared.word.TowerWord.TheVariants.{PlaneWord, ColourWord, AboveLines, LeftLines, RefWidth, RefHeight, Width, Height, LumaX, LumaY, HaveTop, HaveLeft, SpareA, SpareB, SpareC, SpareD}
 
@@ -30,5 +30,5 @@ added_words =
     LumaX ∷ LumaY ∷ HaveTop ∷ HaveLeft ∷ SpareA ∷ SpareB ∷ SpareC ∷ SpareD ∷ []
 
 -- number to case
-abbrev pub tower_word_of : ℕ → Maybe TowerWord
-tower_word_of n = look tower_place only nothing added_words n
+abbrev pub tower_word_of : ℕ → Option TowerWord
+tower_word_of n = look tower_place Some None added_words n

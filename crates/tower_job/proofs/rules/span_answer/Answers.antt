@@ -7,7 +7,8 @@ use Rattle.colour_words.specs.declared.ColourWords.{ColourWords}
 use Rattle.tower_job.specs.Tests.{is_in_planes}
 use Rattle.numbers.specs.Colour.{is_colour}
 use Rattle.numbers.specs.declared.answer.Refusal.TheVariants.{BadColourDirection, BadReference, BadLines}
-use Rattle.numbers.proofs.Colours.{colour-yes, colour-no}
+use Rattle.numbers.proofs.Colours.{colour-yes, colour-else}
+use Rattle.numbers.proofs.Look.{passed_on}
 use Rattle.refusals.specs.Ladder.{◌else◌, ladder}
 use Rattle.refusals.proofs.Ladder.{kept, broken}
 use Rattle.colour_terms.specs.Reference.{is_sizes}
@@ -30,27 +31,27 @@ module _ (w h : ℕ) (c : ColourWords) (p : is_in_planes w h c ≡ true) where
 pub returns-then-not-is_in_planes : goal.returns-then-not-is_in_planes
 returns-then-not-is_in_planes c = broken _ _ _ _ (sym c.is_in_planes.ensures ∙ c.if-not-is_in_planes.true) refl
 
-pub returns-in_default : goal.returns-in_default
-returns-in_default c =
+pub returns-in_err-try_from : goal.returns-in_err-try_from
+returns-in_err-try_from c =
     let p = sym c.is_in_planes.ensures ∙ c.if-not-is_in_planes.false in
-    broken _ _ _ _ (colour-no _ (sym c.of.ensures ∙ c.in_default.is)) (four c.args.width c.args.height c.args.c p)
+    rw (four c.args.width c.args.height c.args.c p) (passed_on _ c.from_residual.ensures.1 ∙ colour-else _ _ c.in_err-try_from.ensures)
 
 pub returns-then-not-is_sizes : goal.returns-then-not-is_sizes
 returns-then-not-is_sizes c =
     let p = sym c.is_in_planes.ensures ∙ c.if-not-is_in_planes.false in
-    let q = colour-yes _ _ (sym c.of.ensures ∙ c.in-Is.is) in
+    let q = colour-yes _ _ (sym c.in_ok-try_from.ensures) in
     broken _ _ _ _ (sym c.is_sizes.ensures ∙ c.if-not-is_sizes.true) (ten c.args.width c.args.height c.args.c p q)
 
 pub returns-then-not-is_colour_lines : goal.returns-then-not-is_colour_lines
 returns-then-not-is_colour_lines c =
     let p = sym c.is_in_planes.ensures ∙ c.if-not-is_in_planes.false in
-    let q = colour-yes _ _ (sym c.of.ensures ∙ c.in-Is.is) in
+    let q = colour-yes _ _ (sym c.in_ok-try_from.ensures) in
     let r = sym c.is_sizes.ensures ∙ c.if-not-is_sizes.false in
     broken _ _ _ _ (sym c.is_colour_lines.ensures ∙ c.if-not-is_colour_lines.true) (eleven c.args.width c.args.height c.args.c p q r)
 
 pub returns : goal.returns
 returns c =
     let p = sym c.is_in_planes.ensures ∙ c.if-not-is_in_planes.false in
-    let q = colour-yes _ _ (sym c.of.ensures ∙ c.in-Is.is) in
+    let q = colour-yes _ _ (sym c.in_ok-try_from.ensures) in
     let r = sym c.is_sizes.ensures ∙ c.if-not-is_sizes.false in
     sym (kept _ _ _ _ (sym c.is_colour_lines.ensures ∙ c.if-not-is_colour_lines.false) (eleven c.args.width c.args.height c.args.c p q r))
