@@ -3,6 +3,7 @@ ghost use Rattle.colour_block.specs.Predicted.{block_from};
 ghost use Rattle.latch.specs.Exported.{window, DerivedC, PredictedBlockC};
 
 use colour_sums::window::Window;
+use numbers::answer;
 
 // `colour_params::derive_into`, by its answer's number.
 #[unsafe(no_mangle)]
@@ -25,7 +26,7 @@ pub extern "C" fn latch_derive_params(
         above_lines,
         left_lines,
     };
-    colour_params::derive_into(luma, chroma, w, direction, d, params).number()
+    answer::number(colour_params::derive_into(luma, chroma, w, direction, d, params))
 }
 
 // `colour_block::predict_block`, by its answer's number.
@@ -55,8 +56,7 @@ pub extern "C" fn latch_predict_block(
         above_lines,
         left_lines,
     };
-    colour_block::predict_block(
+    answer::number(colour_block::predict_block(
         luma, w, width, height, have_top, have_left, direction, d, p0, p1, p2, out,
-    )
-    .number()
+    ))
 }

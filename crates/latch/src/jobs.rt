@@ -1,6 +1,8 @@
 // The calls on jobs: a single one, and a plan's in an order (document 01, Refusal numbers, in order of checking).
 ghost use Rattle.latch.specs.Jobs.{JobDoneC, RanC};
 
+use numbers::answer;
+
 // `single_job::run_job`, by its answer's number.
 #[unsafe(no_mangle)]
 pub extern "C" fn latch_run_job(
@@ -12,7 +14,7 @@ pub extern "C" fn latch_run_job(
 ) -> u32
     ensures { JobDoneC width height differences.now row.now plane.old plane.new result }
 {
-    single_job::run_job(plane, width, height, row, differences).number()
+    answer::number(single_job::run_job(plane, width, height, row, differences))
 }
 
 // `plan::run`, by its answer's number.
@@ -28,5 +30,5 @@ pub extern "C" fn latch_run(
 ) -> u32
     ensures { RanC width height differences.now plan.now order.now plane.old answers.old plane.new answers.new result }
 {
-    plan::run(plane, width, height, plan, order, differences, answers).number()
+    answer::number(plan::run(plane, width, height, plan, order, differences, answers))
 }

@@ -12,6 +12,7 @@ ghost use Rattle.directional.specs.Words.{is_named, directed};
 ghost use Rattle.latch.specs.Exported.{spec, lists, BuiltC, PredictedC, PredictedByC};
 
 use block_spec::spec::IntraRefSpec;
+use numbers::answer;
 
 // `edges::build_refs`, by its answer's number. The corner is an output of at least one entry.
 #[unsafe(no_mangle)]
@@ -49,7 +50,7 @@ pub extern "C" fn latch_build_refs(
         available_left,
         base,
     };
-    edges::build_refs(plane, width, height, s, above, left, corner).number()
+    answer::number(edges::build_refs(plane, width, height, s, above, left, corner))
 }
 
 // `paeth::paeth`, by its answer's number.
@@ -64,7 +65,7 @@ pub extern "C" fn latch_paeth(
 ) -> u32
     ensures { PredictedC paeth_at b d above.now left.now corner out.old out.new result }
 {
-    paeth::paeth(b, d, above, left, corner, out).number()
+    answer::number(paeth::paeth(b, d, above, left, corner, out))
 }
 
 // `smooth::smooth`, by its answer's number.
@@ -79,7 +80,7 @@ pub extern "C" fn latch_smooth(
 ) -> u32
     ensures { PredictedC smooth_at b d above.now left.now corner out.old out.new result }
 {
-    smooth::smooth(b, d, above, left, corner, out).number()
+    answer::number(smooth::smooth(b, d, above, left, corner, out))
 }
 
 // `smooth::smooth_v`, by its answer's number.
@@ -94,7 +95,7 @@ pub extern "C" fn latch_smooth_v(
 ) -> u32
     ensures { PredictedC smooth_v_at b d above.now left.now corner out.old out.new result }
 {
-    smooth::smooth_v(b, d, above, left, corner, out).number()
+    answer::number(smooth::smooth_v(b, d, above, left, corner, out))
 }
 
 // `smooth::smooth_h`, by its answer's number.
@@ -109,7 +110,7 @@ pub extern "C" fn latch_smooth_h(
 ) -> u32
     ensures { PredictedC smooth_h_at b d above.now left.now corner out.old out.new result }
 {
-    smooth::smooth_h(b, d, above, left, corner, out).number()
+    answer::number(smooth::smooth_h(b, d, above, left, corner, out))
 }
 
 // `directional::directional`, by its answer's number. delta is the row's word, delta + 3.
@@ -129,8 +130,7 @@ pub extern "C" fn latch_directional(
 ) -> u32
     ensures { PredictedByC (is_named direction delta flags) (directed d direction delta flags wide high) b d above.now left.now corner out.old out.new result }
 {
-    directional::directional(
+    answer::number(directional::directional(
         b, d, direction, delta, flags, wide, high, above, left, corner, out,
-    )
-    .number()
+    ))
 }

@@ -2,6 +2,8 @@
 ghost use Rattle.tower_work.specs.Granted.{three};
 ghost use Rattle.tower.specs.Jobs.{TowerSingleC, TowerRanC};
 
+use numbers::answer;
+
 // `tower_single::run_job`, by its answer's number.
 #[unsafe(no_mangle)]
 pub extern "C" fn tower_run_job(
@@ -15,7 +17,7 @@ pub extern "C" fn tower_run_job(
 ) -> u32
     ensures { TowerSingleC width height differences.now row.now (three plane0.old plane1.old plane2.old) (three plane0.new plane1.new plane2.new) result }
 {
-    tower_single::run_job(plane0, plane1, plane2, width, height, row, differences).number()
+    answer::number(tower_single::run_job(plane0, plane1, plane2, width, height, row, differences))
 }
 
 // `tower_plan::run`, by its answer's number.
@@ -33,7 +35,7 @@ pub extern "C" fn tower_run(
 ) -> u32
     ensures { TowerRanC width height differences.now plan.now order.now (three plane0.old plane1.old plane2.old) answers.old (three plane0.new plane1.new plane2.new) answers.new result }
 {
-    tower_plan::run(
+    answer::number(tower_plan::run(
         plane0,
         plane1,
         plane2,
@@ -43,6 +45,5 @@ pub extern "C" fn tower_run(
         order,
         differences,
         answers,
-    )
-    .number()
+    ))
 }
