@@ -27,7 +27,7 @@ use Rattle.tower_job.specs.Job.{read_tower, tower_mode}
 use Rattle.tower_job.specs.declared.tower.TowerMode.{TowerMode}
 use Rattle.tower_job.specs.declared.tower.TowerMode.TheVariants.{Base, Colour}
 use Rattle.tower_job.specs.declared.tower.TowerJob.{TowerJob}
-use Rattle.tower_job.specs.declared.tower.FoundTower.TheVariants.{Is}
+use Rattle.std.specs.Prelude.{Ok}
 use Rattle.tower_job.proofs.Read.{read-stands, read-job}
 use Rattle.tower_job.proofs.Stands.{plane-known, colour-placed, base-stands}
 use Rattle.tower_touches.specs.Rects.{nothing, rects_by, tower_reads, tower_writes}
@@ -48,7 +48,7 @@ module _ (row : Row) where
   colour-mode true c e = (refl, cc)
   colour-mode false c e = let z : ◌≡◌ {A = ℕ} 0 1 = cc in absurd (omega arith)
 
-module _ (W H n : ℕ) (row : Row) (job : TowerJob) (read : read_tower W H n row ≡ Is job) where
+module _ (W H n : ℕ) (row : Row) (job : TowerJob) (read : read_tower W H n row ≡ Ok job) where
   stands : tower_stands W H n row ≡ true
   stands = read-stands W H n row job read
 

@@ -6,13 +6,13 @@ ghost use Rattle.tower_rects.specs.Rows.{rects_of, row_rects};
 use crate::rects::JobRects;
 use crate::{base, colour, rects};
 use tower_job::rules;
-use tower_job::tower::{FoundTower, TowerMode};
+use tower_job::tower::TowerMode;
 
 pub fn row_rects(width: usize, height: usize, n: usize, row: &[u16]) -> JobRects
     requires { (width ≤ 4096) × (height ≤ 4096) × (length row.now ≡ 32) }
     ensures { rects_of result ≡ row_rects width height n row.now }
 {
-    let FoundTower::Is(job) = rules::read_row(width, height, n, row) else {
+    let Ok(job) = rules::read_row(width, height, n, row) else {
         return rects::untouched();
     };
     let top = job.plane as usize * height;

@@ -3,11 +3,10 @@ use mathlib.Core.Path.{◌≡◌, refl, sym, ◌∙◌, ap}
 use mathlib.Core.Bool.{Bool, true, false, cond}
 use mathlib.Core.List.{List, ◌++◌}
 use Prim.Native.Nat.{ℕ}
-use lib.Dec.{T}
 use lib.Ieee.{Float}
 use Rattle.numbers.specs.Answer.{is_done}
 use Rattle.refusals.specs.Ladder.{Rule, ladder}
-use Rattle.refusals.proofs.Ladder.{refuses, ladder-append}
+use Rattle.refusals.proofs.Ladder.{ladder-append}
 use Rattle.sides.specs.Read.{read_rules}
 use Rattle.planes.specs.Three.{Three, plane_in}
 use Rattle.job.specs.Row.{Row, spec_of}
@@ -20,16 +19,11 @@ use Rattle.tower_job.specs.Rules.{base_rules, colour_rules, tower_rules, tower_a
 use Rattle.tower_work.specs.Done.{own_plane, tower_read_rules, tower_job_answer}
 
 module _ (W H n : ℕ) (row : Row) where
-  -- every rule by the row refuses
-  row-refuses : (b : Bool) → T (refuses (cond b (colour_rules W H row) (base_rules W H n row)))
-  row-refuses true = tt
-  row-refuses false = tt
-
   module _ (planes : Three Float) where
     -- the rules by the row, and then those of what is read
     pub tower-then : tower_job_answer W H n row planes ≡ cond (tower_stands W H n row) (ladder (tower_read_rules W row planes)) (tower_answer W H n row)
     unfolding tower_job_answer tower_stands tower_answer
-    tower-then = ladder-append (tower_rules W H n row) (tower_read_rules W row planes) (row-refuses (is_colour_mode row))
+    tower-then = ladder-append (tower_rules W H n row) (tower_read_rules W row planes)
 
     -- by whether the job stands
     pub tower-by : (b : Bool) → tower_stands W H n row ≡ b

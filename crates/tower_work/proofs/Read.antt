@@ -12,9 +12,9 @@ use Rattle.refusals.proofs.Promise.{lent-refused, refused}
 use Rattle.block_spec.proofs.Placed.{plane-is}
 use Rattle.planes.specs.Three.{Three, plane_in, with_plane}
 use Rattle.job.specs.Row.{Row}
-use Rattle.job.specs.Rules.{row_answer}
+use Rattle.job.specs.Rules.{row_answer, stands}
 use Rattle.job.specs.Job.{job_of, read_row}
-use Rattle.job.specs.declared.job.FoundJob.TheVariants as first
+use Rattle.job.proofs.Read as base
 use Rattle.job_work.specs.Granted.{read_answer, read_done}
 use Rattle.job_work.proofs.Tested.{tested, read-on}
 use Rattle.job.specs.declared.job.Job.{Job}
@@ -26,7 +26,9 @@ use Rattle.tower_job.specs.Rules.{tower_stands}
 use Rattle.tower_job.specs.Job.{read_tower}
 use Rattle.tower_job.specs.declared.tower.TowerJob.{TowerJob}
 use Rattle.tower_job.specs.declared.tower.TowerMode.TheVariants.{Base, Colour}
-use Rattle.tower_job.specs.declared.tower.FoundTower.TheVariants.{Is, Refused}
+use Rattle.std.specs.Prelude.{Ok, Err}
+use Rattle.numbers.specs.declared.answer.Refusal.{Refusal}
+use Rattle.numbers.proofs.Named.{done-is, err-refused}
 use Rattle.tower_job.proofs.Read.{read-stands, read-job, refused-stands, answer-no}
 use Rattle.tower_job.proofs.Stands.{colour-placed, stands-tower, base-stands, plane-known, colour-plane}
 use Rattle.tower_work.specs.Done.{own_plane, own_done, tower_job_answer, tower_done, TowerDone}
@@ -36,8 +38,9 @@ use Rattle.tower_work.proofs.Onto.{lent-with}
 
 module _ (W H n : ℕ) (row : Row) where
   -- the first library reads the same job
-  first_reads : is_colour_mode row ≡ false → tower_stands W H n row ≡ true → read_row W H n (base_row row) ≡ first.Is (job_of (base_row row))
-  first_reads m e = ap (λ b. cond b (first.Is (job_of (base_row row))) (first.Refused (row_answer W H n (base_row row)))) (base-stands W H n row m e)
+  first_reads : is_colour_mode row ≡ false → tower_stands W H n row ≡ true → read_row W H n (base_row row) ≡ Ok (job_of (base_row row))
+  unfolding stands
+  first_reads m e = sym (base.reads-yes W H n (base_row row) (sym (done-is _ (base-stands W H n row m e))) (job_of (base_row row)) refl)
 
   module _ (p0 p1 p2 : List Float) (planes : ArePlanes W H p0 p1 p2) where
     mode-asks : (b : Bool) → is_colour_mode row ≡ b → tower_stands W H n row ≡ true
@@ -47,7 +50,7 @@ module _ (W H n : ℕ) (row : Row) where
         (colour-plane W H n row m e, record { H = H; sides = (p.0, p.1); whole = p.2; placed = colour-placed W H n row m e })
     mode-asks false m e = tested W H n (base_row row) (length p0) (job_of (base_row row)) planes.first (first_reads m e)
 
-    pub read-asks : (job : TowerJob) → read_tower W H n row ≡ Is job
+    pub read-asks : (job : TowerJob) → read_tower W H n row ≡ Ok job
         → OnePlane p0 p1 p2 job.plane × TowerRead W n (length p0) job.mode job.plane
     read-asks job r =
         let e = read-stands W H n row job r in
@@ -65,12 +68,12 @@ module _ (W H : ℕ) (differences : List ℤ) (row : Row) (t : Three Float) wher
   n = length differences
 
   -- a rule before 8 refuses the row
-  pub not-read : (a : Answer) → read_tower W H n row ≡ Refused a → TowerDone W H differences row t t a
+  pub not-read : {r : Refusal} → read_tower W H n row ≡ Err r → TowerDone W H differences row t t (Err r)
   unfolding tower_done tower_stands
-  not-read a r =
-      let no = refused-stands W H n row a r in
-      let e = answer-no W H n row a r in
-      refused _ t (e ∙ sym (tower-by W H n row t false no)) (ap is_done e ∙ no)
+  not-read h =
+      let no = refused-stands W H n row h in
+      let e = answer-no W H n row h in
+      refused _ t (e ∙ sym (tower-by W H n row t false no)) (err-refused refl)
 
   -- what is left of the planes, where the job's own plane and its answer are known
   left : (own : List Float) → tower_stands W H n row ≡ true → own ≡ own_done W H differences row t
@@ -109,7 +112,7 @@ module _ (W H : ℕ) (differences : List ℤ) (row : Row) (t : Three Float) wher
         holds = left (read_done W differences job own) e (rw m p.holds) (λ no. base_stays job (ap is_done (p.answers ∙ sym a) ∙ no)) t' d.holds;
       }
 
-  pub read_left : (job : TowerJob) → read_tower W H n row ≡ Is job → (t' : Three Float) (r : Answer)
+  pub read_left : (job : TowerJob) → read_tower W H n row ≡ Ok job → (t' : Three Float) (r : Answer)
       → TowerLeft W differences job.mode job.plane t t' r → TowerDone W H differences row t t' r
   read_left job q t' r d =
       mode-left (is_colour_mode row) refl (read-stands W H n row job q) t' r

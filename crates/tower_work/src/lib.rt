@@ -9,7 +9,7 @@ ghost use Rattle.tower_work.specs.Done.{TowerDone};
 ghost use Rattle.tower_work.specs.Granted.{three, ArePlanes, OnePlane, TowerRead, TowerLeft};
 
 use numbers::answer::Answer;
-use tower_job::tower::{FoundTower, TowerJob, TowerMode};
+use tower_job::tower::{TowerJob, TowerMode};
 
 // A job that no rule before 8 refuses. In the modes of the first library the edges have room at the front of the windows.
 fn do_read(
@@ -67,21 +67,17 @@ pub fn do_job(
     requires luma_len { (length luma.old ≡ 65536) × (length chroma.old ≡ 65536) × (length block.old ≡ 16384) × (length out.old ≡ 4096) }
     ensures { TowerDone width height differences.now row.now (three p0.old p1.old p2.old) (three p0.new p1.new p2.new) result }
 {
-    match tower_job::rules::read_row(width, height, differences.len(), row) {
-        FoundTower::Refused(answer) => answer,
-        FoundTower::Is(job) => {
-            do_read(
-                p0,
-                p1,
-                p2,
-                width,
-                job,
-                differences,
-                luma,
-                chroma,
-                block,
-                out,
-            )
-        }
-    }
+    let job = tower_job::rules::read_row(width, height, differences.len(), row)?;
+    do_read(
+        p0,
+        p1,
+        p2,
+        width,
+        job,
+        differences,
+        luma,
+        chroma,
+        block,
+        out,
+    )
 }
