@@ -5,12 +5,12 @@ use Prim.Native.Nat.{ℕ}
 use lib.IntN.{ℤ}
 use lib.ListN.{length}
 use borrow.Author.Tests.{leb-true}
+use Rattle.numbers.specs.Answer.{done}
 use Rattle.refusals.proofs.Ladder.{all-kept}
 use Rattle.colour_rules.specs.Rules.{predict_rules, predict_answer}
 use Rattle.colour_rules.specs.declared.block.Block.{Block}
 use Rattle.colour_rules.proofs.Granted.{placed}
 use Rattle.colour_block.specs.Accepted.{BlockAccepted}
-use Rattle.numbers.specs.Answer.{done}
 
 pub accepted : (luma : List ℤ) (b : Block) (n : ℕ) → predict_answer luma b n ≡ done → BlockAccepted luma b n
 unfolding predict_answer

@@ -1,5 +1,6 @@
 -- The block that the parameters give of its luma (document 01, Colour parameters), and what the call promises.
 use Rattle.std.specs.Prelude.{ℕ, ◌*◌, Bool, List, ℤ, length}
+use Rattle.numbers.specs.Answer.{Answer}
 use Rattle.lists.specs.Fill.{filled}
 use Rattle.lists.specs.Block.{rows}
 use Rattle.refusals.specs.Promise.{lent, Promise}
@@ -9,7 +10,6 @@ use Rattle.colour_row.specs.Sample.{total, third_of, clipped}
 use Rattle.colour_rules.specs.Needed.{value_at, centre_at, direction_at}
 use Rattle.colour_rules.specs.Rules.{predict_answer}
 use Rattle.colour_rules.specs.declared.block.Block.{Block}
-use Rattle.numbers.specs.Answer.{Answer}
 
 -- the sample at row r and column c, where `at` tells luma by column and row
 abbrev pub chroma_at : (ℕ → ℕ → ℤ) → Block → ℤ → ℤ → ℤ → ℕ → ℕ → ℤ

@@ -5,16 +5,18 @@ use mathlib.Core.List.{List}
 use Prim.Native.Nat.{ℕ, ◌+◌, ◌*◌, ◌<◌}
 use lib.IntN.{ℤ, pos}
 use lib.Ieee.{Float}
+use Rattle.std.specs.Prelude.{Result}
 use Rattle.numbers.specs.Colour.{the_colour}
 use Rattle.numbers.specs.Depth.{most}
 use Rattle.numbers.specs.declared.colour.ColourDirection.{ColourDirection}
+use Rattle.numbers.specs.declared.answer.Refusal.{Refusal}
 use Rattle.signed.specs.Range.{inside}
 use Rattle.edge_line.proofs.Every.{every-same}
 use Rattle.colour_terms.specs.Terms.{entry}
 use Rattle.colour_sums.specs.declared.window.Window.{Window}
 use Rattle.colour_sums.proofs.Same.{sums_same, readable-same}
+use Rattle.elimination.specs.declared.Params.{Params}
 use Rattle.colour_params.specs.Derived.{sampled}
-use Rattle.colour_params.specs.declared.Derived.{Derived}
 use Rattle.colour_rules.specs.Rules.{is_luma_in_range}
 use Rattle.colour_block.specs.Predicted.{chroma_at}
 use Rattle.colour_words.specs.declared.ColourWords.{ColourWords}
@@ -54,7 +56,7 @@ module _ {size W : ℕ} {c : ColourWords} (l : ColourLaid size W c) (luma chroma
     held-chroma p0 p1 p2 r k a b = chroma-same (colour_block c) (entry xs) (luma_in W c luma) p0 p1 p2 r k (g.near k r b a) (g.own k r b a)
 
     -- the same, by any name of what derivation is called with
-    pub held-derived : (ys : List ℤ) → ChromaHeld c (chroma_in W c chroma) ys → (w : Window) (d : ColourDirection) (n : ℕ) (r : Derived)
+    pub held-derived : (ys : List ℤ) → ChromaHeld c (chroma_in W c chroma) ys → (w : Window) (d : ColourDirection) (n : ℕ) (r : Result Params Refusal)
         → w ≡ colour_window c → d ≡ direction → n ≡ c.d → r ≡ sampled (entry xs) (entry ys) w d n
         → r ≡ sampled (luma_in W c luma) (chroma_in W c chroma) (colour_window c) direction c.d
     held-derived ys h w d n r ew ed en e = e ∙ (λ j. sampled (entry xs) (entry ys) (ew j) (ed j) (en j)) ∙ held-sampled ys h

@@ -1,22 +1,23 @@
 -- What a job derives and predicts hangs on its test and its sums, and on the places that the block needs: the same there is the same. And the
 -- answer of a window whose samples are in range. Assumes nothing.
-use mathlib.Core.Path.{◌≡◌, ap}
-use mathlib.Core.Bool.{Bool, true, cond}
-use mathlib.Core.List.{[], ◌∷◌}
+use mathlib.Core.Path.{◌≡◌, ◌∙◌, ap}
+use mathlib.Core.Bool.{true, cond}
+use mathlib.Core.List.{List, [], ◌∷◌}
 use Prim.Native.Nat.{ℕ}
 use lib.IntN.{ℤ}
-use Rattle.numbers.specs.Answer.{is_done, done, Answer}
+use Rattle.std.specs.Prelude.{Ok, Err}
+use Rattle.numbers.specs.Answer.{done}
 use Rattle.numbers.specs.Depth.{most}
+use Rattle.numbers.specs.declared.answer.Refusal.{Refusal}
 use Rattle.numbers.specs.declared.answer.Refusal.TheVariants.{BadColourSample, SumTooLarge}
 use Rattle.numbers.specs.declared.colour.ColourDirection.{ColourDirection}
-use Rattle.refusals.specs.Ladder.{◌else◌, ladder}
-use Rattle.colour_samples.specs.declared.nine.Nine.{Nine}
-use Rattle.colour_sums.specs.Sum.{sums_of, count_of, is_readable}
+use Rattle.refusals.specs.Ladder.{Rule, ◌else◌, ladder}
+use Rattle.elimination.specs.declared.Params.{Params}
+use Rattle.colour_sums.specs.Sum.{sums_of, is_readable}
 use Rattle.colour_sums.specs.declared.window.Window.{Window}
-use Rattle.colour_solve.specs.Shift.{params_of}
 use Rattle.colour_solve.specs.Small.{is_small}
-use Rattle.colour_params.specs.Derived.{zeros, window_params, sampled}
-use Rattle.colour_params.specs.declared.Derived.{Derived}
+use Rattle.colour_params.specs.Derived.{window_params, answered, sampled}
+use Rattle.colour_params.proofs.Samples.{answered-err, answered-ok}
 use Rattle.colour_row.specs.Sample.{total, third_of, clipped}
 use Rattle.colour_rules.specs.Needed.{value_at, centre_at, direction_at}
 use Rattle.colour_rules.specs.declared.block.Block.{Block}
@@ -24,30 +25,28 @@ use Rattle.colour_block.specs.Predicted.{chroma_at}
 
 -- ---- over any luma and chroma
 module _ (w : Window) (direction : ColourDirection) (D : ℕ) where
-  -- what a window gives, by its test and its sums
-  abbrev given : Bool → Nine → Derived
-  given ok s =
-      let a : Answer = cond ok (cond (is_small s) done SumTooLarge) BadColourSample in
-      record { answer = a; params = cond (is_done a) (params_of D (count_of w) s) zeros }
-
   pub sampled-same : (luma luma' chroma chroma' : ℕ → ℕ → ℤ) → is_readable (most D) direction luma chroma w
       ≡ is_readable (most D) direction luma' chroma' w
       → sums_of D direction luma chroma w ≡ sums_of D direction luma' chroma' w
       → sampled luma chroma w direction D ≡ sampled luma' chroma' w direction D
   unfolding sampled window_params
-  sampled-same luma luma' chroma chroma' r s = λ j. given (r j) (s j)
+  sampled-same luma luma' chroma chroma' r s = simp (r, s)
 
-  -- of a readable window the answer is done or 14
-  pub readable-answer : (luma chroma : ℕ → ℕ → ℤ) → is_readable (most D) direction luma chroma w ≡ true
-      → (sampled luma chroma w direction D).answer ≡ ladder (is_small (sums_of D direction luma chroma w) else SumTooLarge ∷ [])
-  unfolding sampled
-  readable-answer luma chroma e = ap (λ t. cond t (cond (is_small (sums_of D direction luma chroma w)) done SumTooLarge) BadColourSample) e
+  -- of a readable window the answer is done or 14, and one that is done has its parameters
+  module _ (luma chroma : ℕ → ℕ → ℤ) (e : is_readable (most D) direction luma chroma w ≡ true) where
+    abbrev small-rules : List Rule
+    small-rules = is_small (sums_of D direction luma chroma w) else SumTooLarge ∷ []
 
-  -- and a window that is done has its parameters
-  pub sampled-params : (luma chroma : ℕ → ℕ → ℤ) → is_done (sampled luma chroma w direction D).answer ≡ true
-      → (sampled luma chroma w direction D).params ≡ window_params luma chroma w direction D
-  unfolding sampled
-  sampled-params luma chroma e = ap (λ t. cond t (window_params luma chroma w direction D) zeros) e
+    sampled-is : sampled luma chroma w direction D ≡ answered (window_params luma chroma w direction D) (ladder small-rules)
+    unfolding sampled
+    sampled-is = ap (λ t. answered (window_params luma chroma w direction D) (cond t (ladder small-rules) (Err BadColourSample))) e
+
+    pub readable-err : (r : Refusal) → Err r ≡ sampled luma chroma w direction D → Err r ≡ ladder small-rules
+    readable-err r h = answered-err (window_params luma chroma w direction D) (ladder small-rules) r (h ∙ sampled-is)
+
+    pub readable-ok : (p : Params) → Ok p ≡ sampled luma chroma w direction D
+        → (done ≡ ladder small-rules) × (p ≡ window_params luma chroma w direction D)
+    readable-ok p h = answered-ok (window_params luma chroma w direction D) (ladder small-rules) p (h ∙ sampled-is)
 
 pub chroma-same : (b : Block) (luma luma' : ℕ → ℕ → ℤ) (p0 p1 p2 : ℤ) (r k : ℕ)
     → value_at luma (direction_at b k r) ≡ value_at luma' (direction_at b k r) → value_at luma (centre_at b k r) ≡ value_at luma' (centre_at b k r)

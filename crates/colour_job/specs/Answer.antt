@@ -1,5 +1,6 @@
 -- "8 in place of 13, and 14" (document 02, request (v)): a colour job's tests of the samples that it reads, in order, and its answer.
 use Rattle.std.specs.Prelude.{Bool, ◌&&◌, List, [], ◌∷◌, ℕ, Float}
+use Rattle.numbers.specs.Answer.{Answer}
 use Rattle.numbers.specs.Colour.{the_colour}
 use Rattle.numbers.specs.declared.answer.Refusal.TheVariants.{BadSample, SumTooLarge}
 use Rattle.refusals.specs.Ladder.{Rule, ◌else◌, ladder}
@@ -8,7 +9,6 @@ use Rattle.colour_solve.specs.Small.{is_small}
 use Rattle.colour_words.specs.declared.ColourWords.{ColourWords}
 use Rattle.colour_words.specs.Colour.{colour_window}
 use Rattle.colour_windows.specs.Windows.{luma_in, chroma_in, luma_read, chroma_read}
-use Rattle.numbers.specs.Answer.{Answer}
 
 -- 14, of the nine sums over both windows
 unfoldable pub colour_small : ℕ → ColourWords → List Float → List Float → Bool

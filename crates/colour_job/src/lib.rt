@@ -19,7 +19,6 @@ ghost use Rattle.colour_windows.specs.Held.{Room};
 ghost use Rattle.colour_job.specs.Passed.{Passed, Given};
 
 use colour_block::block;
-use colour_params::Derived;
 use colour_windows::{chroma, luma};
 use colour_words::ColourWords;
 use elimination::Params;
@@ -33,10 +32,7 @@ fn depth_of(d: u16) -> Depth
     requires { is_depth d ≡ true }
     ensures { bits_of result ≡ d }
 {
-    let FoundDepth::Is(depth) = Depth::of(d) else {
-        return Depth::Eight;
-    };
-    depth
+    Depth::try_from(d).unwrap()
 }
 
 // 8, of both windows.
@@ -59,7 +55,7 @@ fn derive(
     depth: Depth,
     luma_window: &mut [i32],
     chroma_window: &mut [i32],
-) -> Derived
+) -> Result<Params, Refusal>
     requires { Passed width c luma.now chroma.now × (bits_of depth ≡ c.d) × Room c luma_window.old × Room c chroma_window.old }
     ensures { Given width c luma.now chroma.now luma_window.old luma_window.new result }
 {
@@ -111,9 +107,7 @@ pub fn do_colour(
     if !all_read(luma, chroma, width, c, depth.max()) {
         return Err(Refusal::BadSample);
     }
-    let r = derive(luma, chroma, width, c, depth, luma_window, chroma_window);
-    r.answer?;
-    let p = r.params;
+    let p = derive(luma, chroma, width, c, depth, luma_window, chroma_window)?;
     write_block(chroma, width, c, p, luma_window, out);
-    answer
+    Ok(())
 }

@@ -7,12 +7,11 @@ use native.Mathlib.Omega.{arith}
 use lib.IntN.{ℤ}
 use lib.ListN.{length, set}
 use Rattle.std.specs.Prelude.{Ok, Err}
-use Rattle.numbers.specs.Answer.{done, Answer}
+use Rattle.numbers.specs.Answer.{done}
 use Rattle.numbers.specs.Colour.{the_colour}
 use Rattle.numbers.specs.Depth.{is_depth, depth_of}
 use Rattle.numbers.specs.declared.answer.Refusal.{Refusal}
 use Rattle.numbers.proofs.Agree.{depth-else}
-use Rattle.numbers.proofs.Look.{ok-same, err-ok, err-same}
 use Rattle.signed.proofs.Range.{and_both}
 use Rattle.refusals.specs.Ladder.{Rule, ladder}
 use Rattle.refusals.proofs.Ladder.{all-kept, ladder-ok, ladder-err}
@@ -23,6 +22,7 @@ use Rattle.elimination.specs.declared.Params.{Params}
 use Rattle.colour_sums.specs.Sum.{Laid}
 use Rattle.colour_sums.specs.declared.window.Window.{Window}
 use Rattle.colour_params.specs.Rules.{are_references, window_rules, sample_rules, derive_rules, derive_answer}
+use Rattle.colour_params.proofs.Samples.{answered-err, answered-ok}
 use Rattle.colour_params.specs.Derived.{list_params, answered, sampled, derived, written}
 
 pub laid : (w : Window) (luma chroma : List ℤ) → are_references w (length luma) (length chroma) ≡ true → Laid w luma chroma
@@ -68,25 +68,17 @@ module _ (luma chroma : List ℤ) (w : Window) (direction D : ℕ) (room : Bool)
   pub derived-samples : derive_answer luma chroma w direction D room ≡ ladder (sample_rules (entry luma) (entry chroma) w (the_colour direction) D)
       → sampled (entry luma) (entry chroma) w (the_colour direction) D ≡ derived luma chroma w direction D room
   unfolding sampled derived
-  derived-samples e = ap (answered (entry luma) (entry chroma) w (the_colour direction) D) (sym e)
+  derived-samples e = ap (answered (list_params luma chroma w direction D)) (sym e)
 
   -- and what it says of the answer
   pub derived-err : (r : Refusal) → Err r ≡ derived luma chroma w direction D room → Err r ≡ derive_answer luma chroma w direction D room
   unfolding derived
-  derived-err r e = go (derive_answer luma chroma w direction D room) e
-    where
-      go : (a : Answer) → Err r ≡ answered (entry luma) (entry chroma) w (the_colour direction) D a → Err r ≡ a
-      go (Ok _) h = absurd (err-ok _ _ h)
-      go (Err q) h = ap Err (err-same r q h)
+  derived-err r e = answered-err (list_params luma chroma w direction D) (derive_answer luma chroma w direction D room) r e
 
   pub derived-ok : (p : Params) → Ok p ≡ derived luma chroma w direction D room
       → (done ≡ derive_answer luma chroma w direction D room) × (p ≡ list_params luma chroma w direction D)
   unfolding derived
-  derived-ok p e = go (derive_answer luma chroma w direction D room) e
-    where
-      go : (a : Answer) → Ok p ≡ answered (entry luma) (entry chroma) w (the_colour direction) D a → (done ≡ a) × (p ≡ list_params luma chroma w direction D)
-      go (Ok _) h = (refl, ok-same _ _ h)
-      go (Err q) h = absurd (err-ok _ _ (sym h))
+  derived-ok p e = answered-ok (list_params luma chroma w direction D) (derive_answer luma chroma w direction D room) p e
 
 -- three stores at the front of a list
 pub three-stores : (p : Params) (xs : List ℤ) → 3 ≤ length xs → set (set (set xs 0 p.x0) 1 p.x1) 2 p.x2 ≡ written p xs

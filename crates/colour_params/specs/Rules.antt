@@ -1,5 +1,6 @@
 -- "colour calls 2, 10, 11, 12, 9, 13, 14" (document 01, Refusal numbers): what `derive_params` tests, in that order.
 use Rattle.std.specs.Prelude.{Bool, ◌&&◌, List, [], ◌∷◌, ◌++◌, ℕ, ℤ, length}
+use Rattle.numbers.specs.Answer.{Answer}
 use Rattle.numbers.specs.Colour.{is_colour, the_colour}
 use Rattle.numbers.specs.Depth.{is_depth, most}
 use Rattle.numbers.specs.declared.answer.Refusal.TheVariants.{BadDepth, BadColourDirection, BadReference, BadLines, ShortList, BadColourSample, SumTooLarge}
@@ -10,7 +11,6 @@ use Rattle.colour_terms.specs.Terms.{entry}
 use Rattle.colour_sums.specs.Sum.{sums_of, is_readable}
 use Rattle.colour_sums.specs.declared.window.Window.{Window}
 use Rattle.colour_solve.specs.Small.{is_small}
-use Rattle.numbers.specs.Answer.{Answer}
 
 -- 11, of luma's list and chroma's, with so many entries
 unfoldable pub are_references : Window → ℕ → ℕ → Bool

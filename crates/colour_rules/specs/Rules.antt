@@ -1,5 +1,6 @@
 -- "colour calls 2, 10, 11, 12, 9, 13, 14" (document 01, Refusal numbers), of prediction, which has no sums for 14.
 use Rattle.std.specs.Prelude.{ℕ, ◌+◌, ◌*◌, Bool, true, not, ◌&&◌, ◌||◌, List, [], ◌∷◌, leb, ℤ, pos, length}
+use Rattle.numbers.specs.Answer.{Answer}
 use Rattle.numbers.specs.Colour.{is_colour}
 use Rattle.numbers.specs.Depth.{is_depth, most}
 use Rattle.numbers.specs.declared.answer.Refusal.TheVariants.{BadDepth, BadColourDirection, BadReference, BadLines, ShortList, BadColourSample}
@@ -10,7 +11,6 @@ use Rattle.colour_terms.specs.Reference.{is_reference, is_lines}
 use Rattle.colour_terms.specs.Terms.{stride, entry}
 use Rattle.colour_rules.specs.Needed.{Place, value_at, needed}
 use Rattle.colour_rules.specs.declared.block.Block.{Block}
-use Rattle.numbers.specs.Answer.{Answer}
 
 -- "width or height not in 1..128"
 abbrev pub largest_side : ℕ
