@@ -3,6 +3,8 @@ ghost use Rattle.std.specs.Prelude.{◌≡◌, length};
 ghost use Rattle.tower_work.specs.Granted.{three};
 ghost use Rattle.tower_plan.specs.Run.{TowerInOrder, TowerRows};
 
+use numbers::answer::number;
+
 // The rows that the order names, one after the other, with room for the windows, a colour block and a predicted block.
 fn run_rows(
     p0: &mut [f32],
@@ -23,9 +25,8 @@ fn run_rows(
     requires luma_len { (length luma.old ≡ 65536) × (length chroma.old ≡ 65536) × (length block.old ≡ 16384) × (length out.old ≡ 4096) }
     ensures { TowerInOrder width height differences.now plan.now order.now (three p0.old p1.old p2.old) answers.old (three p0.new p1.new p2.new) answers.new }
 {
-    let mut k = 0;
-    while k < order.len() {
-        let i = order[k] as usize;
+    for &entry in order {
+        let i = entry as usize;
         let o = 32 * i;
         let e = o + 32;
         let answer = tower_work::do_job(
@@ -41,8 +42,7 @@ fn run_rows(
             block,
             out,
         );
-        answers[i] = answer.number() as u16;
-        k += 1;
+        answers[i] = number(answer) as u16;
     }
 }
 

@@ -8,7 +8,6 @@ ghost use Rattle.tower_work.specs.Granted.{three};
 ghost use Rattle.tower_single.specs.Single.{TowerSingle};
 
 use numbers::answer::{Answer, Refusal};
-use tower_job::tower::FoundTower;
 use tower_words::word::TowerWord;
 
 // A single job: done, with its block written, or a refusal, with nothing written.
@@ -29,8 +28,6 @@ pub fn run_job(
     if row.len() != TowerWord::COUNT {
         return Err(Refusal::BadPlan);
     }
-    match tower_job::rules::read_row(width, height, differences.len(), row) {
-        FoundTower::Refused(answer) => answer,
-        FoundTower::Is(job) => alone::alone(p0, p1, p2, width, job, differences),
-    }
+    let job = tower_job::rules::read_row(width, height, differences.len(), row)?;
+    alone::alone(p0, p1, p2, width, job, differences)
 }

@@ -1,4 +1,4 @@
--- `run_rows` meets its contract. The invariant: the first k entries of the order are done. Assumes nothing.
+-- `run_rows` meets its contract. Assumes nothing.
 use borrow.Author.Rules.{rules}
 use Prim.Native.Nat.{ℕ, ◌+◌, ◌-◌, ◌*◌}
 use native.Mathlib.Omega.{arith}
@@ -13,7 +13,7 @@ use Rattle.planes.specs.Three.{Sized}
 use Rattle.tower_job.specs.Row.{tower_row}
 use Rattle.tower_work.specs.Granted.{three, ArePlanes}
 use Rattle.tower_work.proofs.Frame.{tower-fits}
-use Rattle.tower_plan.proofs.Steps.{none_done, all_done, one_more}
+use Rattle.tower_plan.proofs.Steps.{none_done, one_more}
 use Rattle.tower_plan.proofs.rows.run_rows.Goals as goal
 
 -- planes of one size, before and after
@@ -36,9 +36,8 @@ module _ (W H : ℕ) (p0 p1 p2 : List Float) (planes : ArePlanes W H p0 p1 p2) w
 row_is : (plan : List ℕ) (i : ℕ) → take (32 * i + 32 - 32 * i) (drop (32 * i) plan) ≡ tower_row plan i
 row_is plan i = let e : 32 * i + 32 - 32 * i ≡ 32 = omega arith in ap (λ n. take n (drop (32 * i) plan)) e
 
-pub loop-k-init : goal.loop-k-init
-loop-k-init c = (
-  omega arith,
+pub loop-entry-init : goal.loop-entry-init
+loop-entry-init c = (
   sized _ _ _ _ _ c.requires.tower_rows.are-planes,
   refl,
   none_done c.args.width c.args.height c.args.differences.now c.args.plan.now c.args.order.now _,
@@ -50,28 +49,23 @@ loop-k-init c = (
 
 pub do_job-answer-requires : goal.do_job-answer-requires
 do_job-answer-requires c =
-    let v = c.loop-k.invariant in
-    let i = get_or c.args.order.now c.loop-k.k 0 in
-    let here = c.requires.tower_rows.below c.loop-k.k c.loop-k-test.true in record {
-      are_planes = (still-planes _ _ _ _ _ c.requires.tower_rows.are-planes _ _ _ v.1, part_length (32 * i) 32 c.args.plan.now here.0);
-      luma_len = (v.4, v.5, v.6, v.7);
+    let v = c.loop-entry.invariant in
+    let i = get_or c.args.order.now c.loop-entry.entry-index 0 in
+    let here = c.requires.tower_rows.below c.loop-entry.entry-index c.loop-entry-test.true in record {
+      are_planes = (still-planes _ _ _ _ _ c.requires.tower_rows.are-planes _ _ _ v.0, part_length (32 * i) 32 c.args.plan.now here.0);
+      luma_len = (v.3, v.4, v.5, v.6);
     }
 
-pub loop-k-preserved : goal.loop-k-preserved
-loop-k-preserved c =
+pub loop-entry-preserved : goal.loop-entry-preserved
+loop-entry-preserved c =
     let d = c.do_job-answer.ensures in
-    let v = c.loop-k.invariant in (
-      omega arith,
-      subst (Sized _) (sym d.holds) (tower-fits c.args.width c.args.height c.args.differences.now _ _ v.1),
-      simp length-set v.2,
-      one_more c.args.width c.args.height c.args.differences.now c.args.plan.now c.args.order.now _ _ _ c.loop-k.answers c.loop-k.k _ _ _
-          c.loop-k-test.true v.3 (row_is c.args.plan.now (get_or c.args.order.now c.loop-k.k 0)) d c.number.ensures,
+    let v = c.loop-entry.invariant in (
+      subst (Sized _) (sym d.holds) (tower-fits c.args.width c.args.height c.args.differences.now _ _ v.0),
+      simp length-set v.1,
+      one_more c.args.width c.args.height c.args.differences.now c.args.plan.now c.args.order.now _ _ _ c.loop-entry.answers c.loop-entry.entry-index _ _ _
+          c.loop-entry-test.true v.2 (row_is c.args.plan.now (get_or c.args.order.now c.loop-entry.entry-index 0)) d c.number.ensures,
       search rules,
       search rules,
       search rules,
       search rules,
     )
-
-pub returns : goal.returns
-returns c =
-    c.loop-k.invariant.3 ∙ all_done c.args.width c.args.height c.args.differences.now c.args.plan.now c.args.order.now _ c.loop-k.k (omega arith)

@@ -1,6 +1,0 @@
--- `middle` meets its contract. Assumes nothing.
-use Rattle.tower_single.proofs.Rooms.{room_for}
-use Rattle.tower_single.proofs.room.middle.Goals as goal
-
-pub on_plane-requires : goal.on_plane-requires
-on_plane-requires c = record { one_plane = (c.requires.0, c.requires.1, c.requires.2); colour_room = room_for _ _ _ 64 c.requires.2 c.requires.3 }
