@@ -57,14 +57,14 @@ module _ (W : ℕ) (c : ColourWords) (luma chroma : List Float) where
     pub answer-fourteen : {xs ys : List ℤ} (r : Refusal) → Given W c luma chroma xs ys (Err r) → Err r ≡ colour_answer W c luma chroma
     unfolding colour_small
     answer-fourteen r g =
-        readable-err (colour_window c) (the_colour c.direction) c.d (luma_in W c luma) (chroma_in W c chroma) readable r g.is ∙ fourteen
+        sym (readable-err (colour_window c) (the_colour c.direction) c.d (luma_in W c luma) (chroma_in W c chroma) readable r g.is) ∙ fourteen
 
     -- and its parameters
     pub answer-done : {xs ys : List ℤ} (q : Params) → Given W c luma chroma xs ys (Ok q) → (done ≡ colour_answer W c luma chroma) × (q ≡ colour_params W c luma chroma)
     unfolding colour_small
     answer-done q g =
         let h = readable-ok (colour_window c) (the_colour c.direction) c.d (luma_in W c luma) (chroma_in W c chroma) readable q g.is in
-        (h.0 ∙ fourteen, h.1)
+        (sym h.0 ∙ fourteen, h.1)
 
   -- and what they write, by luma's list
   pub painted-is : {size : ℕ} → ColourLaid size W c → (xs : List ℤ) → LumaHeld c (luma_in W c luma) xs → (p : Params) → p ≡ colour_params W c luma chroma

@@ -15,6 +15,7 @@ use Rattle.numbers.proofs.Agree.{depth-else}
 use Rattle.signed.proofs.Range.{and_both}
 use Rattle.refusals.specs.Ladder.{Rule, ladder}
 use Rattle.refusals.proofs.Ladder.{all-kept, ladder-ok, ladder-err}
+use Rattle.refusals.proofs.Yields.{yields-err, yielded, yield-refused}
 use Rattle.colour_terms.specs.Reference.{is_sizes, is_held}
 use Rattle.colour_terms.specs.Terms.{entry}
 use Rattle.colour_terms.proofs.Granted.{sizes-all, held_all}
@@ -22,7 +23,6 @@ use Rattle.elimination.specs.declared.Params.{Params}
 use Rattle.colour_sums.specs.Sum.{Laid}
 use Rattle.colour_sums.specs.declared.window.Window.{Window}
 use Rattle.colour_params.specs.Rules.{are_references, window_rules, sample_rules, derive_rules, derive_answer}
-use Rattle.colour_params.proofs.Samples.{answered-err, answered-ok}
 use Rattle.colour_params.specs.Derived.{list_params, answered, sampled, derived, written}
 
 pub laid : (w : Window) (luma chroma : List ℤ) → are_references w (length luma) (length chroma) ≡ true → Laid w luma chroma
@@ -63,22 +63,24 @@ module _ (luma chroma : List ℤ) (w : Window) (direction D : ℕ) (room : Bool)
   -- what is returned
   pub derived-refused : (r : Refusal) → derive_answer luma chroma w direction D room ≡ Err r → Err r ≡ derived luma chroma w direction D room
   unfolding derived
-  derived-refused r e = simp e
+  derived-refused r e = yields-err (list_params luma chroma w direction D) (sym e)
 
   pub derived-samples : derive_answer luma chroma w direction D room ≡ ladder (sample_rules (entry luma) (entry chroma) w (the_colour direction) D)
       → sampled (entry luma) (entry chroma) w (the_colour direction) D ≡ derived luma chroma w direction D room
   unfolding sampled derived
-  derived-samples e = ap (answered (list_params luma chroma w direction D)) (sym e)
+  derived-samples e = ap (answered (entry luma) (entry chroma) w (the_colour direction) D) (sym e)
 
   -- and what it says of the answer
   pub derived-err : (r : Refusal) → Err r ≡ derived luma chroma w direction D room → Err r ≡ derive_answer luma chroma w direction D room
   unfolding derived
-  derived-err r e = answered-err (list_params luma chroma w direction D) (derive_answer luma chroma w direction D room) r e
+  derived-err r e = sym (yield-refused (derive_answer luma chroma w direction D room) (list_params luma chroma w direction D) (sym e))
 
   pub derived-ok : (p : Params) → Ok p ≡ derived luma chroma w direction D room
       → (done ≡ derive_answer luma chroma w direction D room) × (p ≡ list_params luma chroma w direction D)
   unfolding derived
-  derived-ok p e = answered-ok (list_params luma chroma w direction D) (derive_answer luma chroma w direction D room) p e
+  derived-ok p e =
+      let y = yielded (derive_answer luma chroma w direction D room) (list_params luma chroma w direction D) p (sym e) in
+      (sym y.0, y.1)
 
 -- three stores at the front of a list
 pub three-stores : (p : Params) (xs : List ℤ) → 3 ≤ length xs → set (set (set xs 0 p.x0) 1 p.x1) 2 p.x2 ≡ written p xs

@@ -1,34 +1,20 @@
 -- What the samples of a window give: nothing counted, refusals 13 and 14, parameters. Assumes nothing.
-use mathlib.Core.Path.{◌≡◌, refl, sym, ap}
+use mathlib.Core.Path.{◌≡◌, sym, ap}
 use mathlib.Core.Bool.{true, false}
 use Prim.Native.Nat.{ℕ}
 use lib.IntN.{ℤ}
 use Rattle.std.specs.Prelude.{Ok, Err}
-use Rattle.numbers.specs.Answer.{done, Answer}
 use Rattle.numbers.specs.Depth.{most}
-use Rattle.numbers.specs.declared.answer.Refusal.{Refusal}
 use Rattle.numbers.specs.declared.answer.Refusal.TheVariants.{BadColourSample, SumTooLarge}
 use Rattle.numbers.specs.declared.colour.ColourDirection.{ColourDirection}
-use Rattle.numbers.proofs.Look.{ok-same, err-ok, err-same}
 use Rattle.elimination.specs.declared.Params.{Params}
 use Rattle.colour_sums.specs.Sum.{sums_of, count_of, is_readable}
 use Rattle.colour_sums.specs.declared.window.Window.{Window}
 use Rattle.colour_sums.proofs.Count.{none-readable, none-summed}
 use Rattle.colour_solve.specs.Shift.{flat, params_of}
 use Rattle.colour_solve.specs.Small.{is_small}
-use Rattle.colour_params.specs.Derived.{window_params, answered, sampled}
+use Rattle.colour_params.specs.Derived.{window_params, sampled}
 
--- what goes with an answer tells the answer
-module _ (params : Params) where
-  pub answered-err : (a : Answer) (r : Refusal) → Err r ≡ answered params a → Err r ≡ a
-  answered-err (Ok _) r h = absurd (err-ok _ _ h)
-  answered-err (Err q) r h = ap Err (err-same r q h)
-
-  pub answered-ok : (a : Answer) (p : Params) → Ok p ≡ answered params a → (done ≡ a) × (p ≡ params)
-  answered-ok (Ok _) p h = (refl, ok-same _ _ h)
-  answered-ok (Err q) p h = absurd (err-ok _ _ (sym h))
-
--- ---- test by test
 module _ (luma chroma : ℕ → ℕ → ℤ) (w : Window) (direction : ColourDirection) (D : ℕ) where
   pub sampled-bad : is_readable (most D) direction luma chroma w ≡ false → Err BadColourSample ≡ sampled luma chroma w direction D
   unfolding sampled

@@ -4,7 +4,7 @@ use Rattle.numbers.specs.Answer.{Answer, done}
 use Rattle.numbers.specs.Colour.{the_colour}
 use Rattle.numbers.specs.declared.answer.Refusal.{Refusal}
 use Rattle.numbers.specs.declared.colour.ColourDirection.{ColourDirection}
-use Rattle.refusals.specs.Ladder.{ladder}
+use Rattle.refusals.specs.Ladder.{ladder, yields}
 use Rattle.refusals.specs.Promise.{lent, Promise}
 use Rattle.elimination.specs.declared.Params.{Params}
 use Rattle.colour_terms.specs.Terms.{entry}
@@ -19,14 +19,12 @@ unfoldable pub window_params : (ℕ → ℕ → ℤ) → (ℕ → ℕ → ℤ) �
 window_params luma chroma w direction D = params_of D (count_of w) (sums_of D direction luma chroma w)
 
 -- what goes with an answer: the parameters, or the refusal
-abbrev pub answered : Params → Answer → Result Params Refusal
-answered params (Ok _) = Ok params
-answered params (Err refusal) = Err refusal
+abbrev pub answered : (ℕ → ℕ → ℤ) → (ℕ → ℕ → ℤ) → Window → ColourDirection → ℕ → Answer → Result Params Refusal
+answered luma chroma w direction D a = yields a (window_params luma chroma w direction D)
 
 -- of a window that passed the tests before 13
 unfoldable pub sampled : (ℕ → ℕ → ℤ) → (ℕ → ℕ → ℤ) → Window → ColourDirection → ℕ → Result Params Refusal
-sampled luma chroma w direction D =
-    answered (window_params luma chroma w direction D) (ladder (sample_rules luma chroma w direction D))
+sampled luma chroma w direction D = answered luma chroma w direction D (ladder (sample_rules luma chroma w direction D))
 
 -- ---- of reference lists: the parameters of one that is accepted, and what any input gives
 abbrev pub list_params : List ℤ → List ℤ → Window → ℕ → ℕ → Params
@@ -34,7 +32,7 @@ list_params luma chroma w direction D = window_params (entry luma) (entry chroma
 
 unfoldable pub derived : List ℤ → List ℤ → Window → ℕ → ℕ → Bool → Result Params Refusal
 derived luma chroma w direction D room =
-    answered (list_params luma chroma w direction D) (derive_answer luma chroma w direction D room)
+    answered (entry luma) (entry chroma) w (the_colour direction) D (derive_answer luma chroma w direction D room)
 
 abbrev pub zeros : Params
 zeros = record { x0 = pos 0; x1 = pos 0; x2 = pos 0 }
