@@ -3,11 +3,11 @@ use native.Mathlib.Omega.{arith}
 use Rattle.tower_single.proofs.Rooms.{room_for, room_most}
 use Rattle.tower_single.proofs.room.colour_alone.Goals as goal
 
-pub with_room-requires : goal.with_room-requires
-with_room-requires c = ?
+pub with_room-requires-clause-colour_room : goal.with_room-requires-clause-colour_room
+with_room-requires-clause-colour_room c = (room_for _ _ _ 16 c.requires.2 c.if-c-le16.true, omega arith, omega arith)
 
-pub with_room-requires-2 : goal.with_room-requires-2
-with_room-requires-2 c = ?
+pub with_room-requires-then-c-le64-clause-colour_room : goal.with_room-requires-then-c-le64-clause-colour_room
+with_room-requires-then-c-le64-clause-colour_room c = (room_for _ _ _ 64 c.requires.2 c.if-c-le64.true, omega arith, omega arith)
 
-pub with_room-requires-3 : goal.with_room-requires-3
-with_room-requires-3 c = ?
+pub with_room-requires-else-c-le64-clause-colour_room : goal.with_room-requires-else-c-le64-clause-colour_room
+with_room-requires-else-c-le64-clause-colour_room c = (room_most _ _ _ c.requires.2, omega arith, omega arith)
