@@ -1,4 +1,4 @@
--- `divided` meets its contract: the second factor, a reciprocal's scale, is not negative. Assumes nothing.
+-- `Pivot::unit` meets its contract: the second factor, a reciprocal's scale, is not negative. Assumes nothing.
 use mathlib.Core.Path.{◌≡◌, sym, ap, ◌∙◌, subst}
 use Prim.Native.Nat.{◌≤◌, ◌^◌}
 use lib.IntN.{ℤ, nat_abs}
@@ -11,13 +11,7 @@ use Rattle.reciprocal.specs.Division.{scale_of}
 use Rattle.elimination.specs.Rows.{unit, pivot}
 use Rattle.fixed_product.proofs.Bounds.{mul-pos}
 use Rattle.reciprocal.proofs.Range.{scale-range, scale-fits}
-use Rattle.elimination.proofs.rows.divided.Goals as goal
-use Rattle.elimination.proofs.rows.divided.Lts as lts
-use Rattle.elimination.proofs.rows.divided.Reads as reads
-use Rattle.elimination.proofs.rows.divided.Tie as tie
-
-abbrev At-Start : Type 0
-At-Start = lts.Start tie.the-claims reads.Pre reads.Post
+use Rattle.elimination.proofs.rows.Pivot.unit.Goals as goal
 
 unit-most : (p v : ℤ) → SFits w32 v → nat_abs (unit p v) ≤ 2 ^ 29
 unfolding unit
@@ -25,17 +19,17 @@ unit-most p v f = let b = scale-range (pivot p) in mul-pos v (scale_of (pivot p)
 
 -- what came back
 module _ (c : goal.After-mul_fixed32_adapt) where
-  abbrev s : At-Start
-  s = c.before.before
+  abbrev p : ℤ
+  p = c.args.self.p
 
-  scale : to_z w32 (of_z w32 s.args.s.scale) ≡ scale_of (pivot s.args.p)
-  scale = ap (λ (z : ℤ). to_z w32 (of_z w32 z)) s.requires.0 ∙ back w32 (scale-fits (pivot s.args.p))
+  scale : to_z w32 (of_z w32 c.args.self.inverse.scale) ≡ scale_of (pivot p)
+  scale = ap (λ (z : ℤ). to_z w32 (of_z w32 z)) c.args.self.scale ∙ back w32 (scale-fits (pivot p))
 
-  is : to_z w32 (of_z w32 c.mul_fixed32_adapt.result) ≡ unit s.args.p s.args.v
+  is : to_z w32 (of_z w32 c.mul_fixed32_adapt.result) ≡ unit p c.args.v
   unfolding unit
   is =
       back w32 {z = c.mul_fixed32_adapt.result} (sfits_of c.mul_fixed32_adapt.type_inv) ∙
-      (simp (back w32 s.ranges.v, scale, s.requires.1) at c.mul_fixed32_adapt.ensures)
+      (simp (back w32 c.ranges.v, scale, c.args.self.shift) at c.mul_fixed32_adapt.ensures)
 
 pub returns : goal.returns
-returns c = let s = s c in (is c, subst (λ (z : ℤ). nat_abs z ≤ 2 ^ 29) (sym (is c)) (unit-most s.args.p s.args.v s.ranges.v))
+returns c = (is c, subst (λ (z : ℤ). nat_abs z ≤ 2 ^ 29) (sym (is c)) (unit-most c.args.self.p c.args.v c.ranges.v))
