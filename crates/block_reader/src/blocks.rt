@@ -59,15 +59,13 @@ pub fn blocks_answer(f: Format, bytes: &[u8], n: usize) -> Tested
     ensures { (result.answer ≡ ladder (blocks_rules f bytes.now n)) × (is_done result.answer ≡ true → result.rows ≡ rows_of f bytes.now) }
 {
     let mut rows = 0;
-    let mut k = 0;
-    while k < n {
+    for k in 0..n {
         let used = word_32(bytes, 512 * k, 4) as usize;
         let answer = block_answer(f, bytes, 512 * k, k, k + 1 == n, used);
         if !answer.is_done() {
             return Tested { answer, rows };
         }
         rows = k * f.rows + used;
-        k += 1;
     }
     Tested {
         answer: Answer::Done,

@@ -39,14 +39,14 @@ module _ (b : At-After-block_answer-answer) where
   next-is =
       b.block_answer-answer.ensures
       ∙ ap (λ (n : ℕ). block_answer s.args.f (eqb (k + 1) n) k (block_bytes s.args.bytes.now k)) s.requires.1
-      ∙ sym (blocks-next s.args.f s.args.bytes.now k b.loop-k.invariant.1)
+      ∙ sym (blocks-next s.args.f s.args.bytes.now k b.loop-k.invariant.0)
       ∙ ap (λ (x : ℕ). ladder (blocks_rules s.args.f s.args.bytes.now x)) (sym (add-one k))
 
   room : k * s.args.f.rows ≤ 1024 * 508
   room = mul-le-mul {n₁ = k} {n₂ = 1024} (omega (arith, s.requires.2)) (rows-most s.args.f s.requires.0)
 
 pub loop-k-init : goal.loop-k-init
-loop-k-init c = (omega arith, blocks-none _ _, refl)
+loop-k-init c = (blocks-none _ _, refl)
 
 pub overflow_mul-k : goal.overflow_mul-k
 overflow_mul-k c = omega arith
@@ -80,18 +80,11 @@ overflow_mul-rows c = omega (arith, room c.before.before.before.before)
 pub overflow_add-rows : goal.overflow_add-rows
 overflow_add-rows c = let b = c.before.before.before.before in omega (arith, room b, b.word_32-used.type_inv)
 
-pub overflow_add-k-in-loop-k : goal.overflow_add-k-in-loop-k
-overflow_add-k-in-loop-k c = omega arith
-
-pub loop-k-smaller : goal.loop-k-smaller
-loop-k-smaller c = omega arith
-
 pub loop-k-preserved : goal.loop-k-preserved
 loop-k-preserved c =
     let e = c.before.before in
     let b = e.before.before in
     let n = e.is_done in (
-      omega arith,
       sym (next-is b) ∙ done-is _ (sym n.ensures ∙ not-false n.result e.if-not-is_done.false-raw),
       ap (λ (x : ℕ). k b * (s b).args.f.rows + x) b.word_32-used.ensures ∙ rows_next (s b).args.f (s b).args.bytes.now (k b),
     )
@@ -101,6 +94,6 @@ returns c =
     let l = c.loop-k in
     let s = c.before.before.before.before in
     let z : l.k ≡ s.args.n = omega arith in (
-      sym l.invariant.1 ∙ ap (λ x. ladder (blocks_rules s.args.f s.args.bytes.now x)) z,
-      λ y. l.invariant.2 ∙ ap (rows_to s.args.f s.args.bytes.now) (z ∙ s.requires.1),
+      sym l.invariant.0 ∙ ap (λ x. ladder (blocks_rules s.args.f s.args.bytes.now x)) z,
+      λ y. l.invariant.1 ∙ ap (rows_to s.args.f s.args.bytes.now) (z ∙ s.requires.1),
     )
