@@ -1,4 +1,6 @@
 // What can be wrong with a file, and how it is told. The numbers are the wrong sample's, from 1 on.
+use series::checked::SampleFault;
+use text::word::WordFault;
 use thiserror::Error;
 
 #[derive(Clone, Copy, Debug, PartialEq, Eq, Error)]
@@ -31,4 +33,14 @@ pub enum Fault {
     OtherSize,
     #[error("no third follows, a still has one greymap or three")]
     Two,
+}
+
+impl From<SampleFault> for Fault {
+    fn from(bad: SampleFault) -> Fault {
+        match bad.why {
+            WordFault::NoNumber => Fault::NoSample(bad.number),
+            WordFault::TooLarge => Fault::TooBright(bad.number),
+            WordFault::Nothing => Fault::Short(bad.number),
+        }
+    }
 }
