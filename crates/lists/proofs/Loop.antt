@@ -1,13 +1,11 @@
--- A loop that fills a list from the front, entry after entry: `filling` names its steps, for the tactics. Assumes nothing.
+-- A list that is filled from the front: by a loop, entry after entry, or its first part, which is lent. Assumes nothing.
 use mathlib.Core.Path.{◌≡◌, sym, ◌∙◌, ap}
 use mathlib.Core.List.{List, ◌++◌}
 use Prim.Native.Nat.{ℕ, ◌+◌, ◌≤◌, ◌<◌}
 use native.Mathlib.Omega.{arith}
-use lib.ListN.{length, set, take, drop, replicate, length-replicate, length-take}
-use lib.Seq.{ext_get_or}
-use Rattle.std.proofs.lemmas.List.{get_or-replicate}
+use lib.ListN.{length, set, take, drop, length-take}
 use Rattle.lists.specs.Fill.{tab, filled}
-use Rattle.lists.proofs.Fill.{length-tab, tab-at, tab-same, filled_none, filled_more, filled-all}
+use Rattle.lists.proofs.Fill.{tab-same, filled_none, filled_more, filled-all}
 
 module _ {A : Type 0} where
   pub filled-first : (f : ℕ → A) (xs : List A) → xs ≡ filled 0 f xs
@@ -25,11 +23,3 @@ module _ {A : Type 0} where
   filled-front n f g xs row h e same =
       let long : length (take n xs) ≡ n = simp length-take (omega arith) in
       ap (λ (l : List A). l ++ drop n xs) (e ∙ ap (λ (m : ℕ). tab m g) long ∙ tab-same n g f same)
-
-  -- one value everywhere
-  pub replicate-tab : (n : ℕ) (v : A) → replicate n v ≡ tab n (λ i. v)
-  replicate-tab n v =
-      ext_get_or v (replicate n v) (tab n (λ i. v)) (length-replicate n v ∙ sym (length-tab n (λ i. v)))
-      (λ i l. let k : i < n = omega (arith, l, length-replicate n v) in get_or-replicate n i v v k ∙ sym (tab-at n (λ i. v) i v k))
-
-pub ruleset filling = (filled-first, filled-step, filled-last, replicate-tab)
