@@ -13,13 +13,11 @@ use block_words::room::has_room;
 use numbers::answer::{Answer, Refusal};
 
 // 40: whole blocks, and not too many.
+#[tactic(auto, unfolding(block_image::specs::Rules::is_whole))]
 fn is_whole(f: Format, n: usize) -> bool
     ensures { result ≡ is_whole f n }
 {
-    if n % 512 != 0 {
-        return false;
-    }
-    n / 512 <= f.most
+    n % 512 == 0 && n / 512 <= f.most
 }
 
 // How many rows are read, or why reading is refused.

@@ -12,10 +12,8 @@ fn take_words(bytes: &[u8], o: usize, words: &mut [u16])
     requires { o + 2 * length words.old ≤ length bytes.now }
     ensures { words.new ≡ tab (length words.old) (λ i. word16 (bytes_from bytes.now o) (2 * i)) }
 {
-    let mut i = 0;
-    while i < words.len() {
-        words[i] = word_16(bytes, o, 2 * i);
-        i += 1;
+    for (i, word) in words.iter_mut().enumerate() {
+        *word = word_16(bytes, o, 2 * i);
     }
 }
 
@@ -24,13 +22,10 @@ fn take_full(bytes: &[u8], area: usize, lead: usize, full: usize, plan: &mut [u1
     requires { (lead + 2 * area ≤ 512) × (full ≤ blocks_in bytes.now) × (full * area ≤ length plan.old) }
     ensures { plan.new ≡ filled (full * area) (word_in area lead bytes.now) plan.old }
 {
-    let mut start = 0;
-    let mut k = 0;
-    while k < full {
+    for k in 0..full {
+        let start = k * area;
         let end = start + area;
         take_words(bytes, 512 * k + lead, &mut plan[start..end]);
-        start = end;
-        k += 1;
     }
 }
 

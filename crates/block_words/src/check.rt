@@ -11,10 +11,8 @@ pub fn sum_of(bytes: &[u8], o: usize, n: usize) -> u32
     ensures { result ≡ sum_to (bytes_from bytes.now o) n % 2 ^ 32 }
 {
     let mut sum: u32 = 0;
-    let mut j = 0;
-    while j < n {
-        sum = std::num::wrapping_add_u32(sum, word_32(bytes, o, 4 * j));
-        j += 1;
+    for j in 0..n {
+        sum = sum.wrapping_add(word_32(bytes, o, 4 * j));
     }
     sum
 }

@@ -15,7 +15,7 @@ fn make_head(k: u32, used: u32, lead: usize, part: &mut [u8])
 {
     put::put_word(k, &mut part[0..4]);
     put::put_word(used, &mut part[4..8]);
-    put::put_zeros(&mut part[8..lead]);
+    part[8..lead].fill(0);
 }
 
 // Words, and zeros after them.
@@ -25,7 +25,7 @@ fn make_rows(words: &[u16], part: &mut [u8])
 {
     let end = 2 * words.len();
     put::put_words(words, &mut part[0..end]);
-    put::put_zeros(&mut part[end..]);
+    part[end..].fill(0);
 }
 
 // The check of a block whose bytes from `end` on are zero up to the check: those need not be added up.

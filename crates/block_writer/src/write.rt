@@ -19,7 +19,7 @@ fn one_block(f: Format, plan: &[u16], n: usize, k: usize, part: &mut [u8])
     ensures { part.new ≡ tab (length part.old) (block_byte f plan.now k) }
 {
     let before = k * f.rows;
-    let used = minmax::min(f.rows, n - before);
+    let used = f.rows.min(n - before);
     let start = before * f.words;
     let end = start + used * f.words;
     make::make_block(k as u32, used as u32, 8 + f.zeros, &plan[start..end], part);
@@ -30,25 +30,18 @@ fn all_blocks(f: Format, plan: &[u16], n: usize, blocks: usize, out: &mut [u8])
     requires { Fits f × WholeRows f plan.now n × (blocks ≡ blocks_for f n) × (512 * blocks ≤ length out.old) }
     ensures { out.new ≡ filled (512 * blocks) (image_byte f plan.now) out.old }
 {
-    let mut o = 0;
-    let mut k = 0;
-    while k < blocks {
-        let e = o + 512;
-        one_block(f, plan, n, k, &mut out[o..e]);
-        o = e;
-        k += 1;
+    for k in 0..blocks {
+        one_block(f, plan, n, k, &mut out[512 * k..512 * k + 512]);
     }
 }
 
 // 21: whole rows, and not too many.
+#[tactic(auto, unfolding(block_image::specs::Refusals::is_rows))]
 fn is_rows(f: Format, plan: &[u16]) -> bool
     requires { Fits f }
     ensures { result ≡ is_rows f plan.now }
 {
-    if plan.len() % f.words != 0 {
-        return false;
-    }
-    plan.len() / f.words <= Plan::MOST
+    plan.len() % f.words == 0 && plan.len() / f.words <= Plan::MOST
 }
 
 // How many bytes a plan of n rows takes.

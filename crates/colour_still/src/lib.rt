@@ -7,7 +7,6 @@ use colour_page::{map, runs, table};
 use greymap::Greymap;
 use numbers::answer::Answer;
 use rebuild::count;
-use series::first;
 use tower_rebuild::again;
 
 // The run of the plan in its own order, and its jobs that were refused.
@@ -21,7 +20,7 @@ fn tell_first(
 ) {
     let mut answers = tower_rebuild::room::answers();
     let answer = tower_rebuild::in_planes(p0, p1, p2, g, plan, differences, &mut answers);
-    let jobs = first::words(&answers, tower_blocks::jobs(g));
+    let jobs = series::first(&answers, tower_blocks::jobs(g));
     runs::print_first(g, answer, count::count_done(jobs));
     if answer == Answer::Done.number() {
         runs::print_refused(plan, jobs);
@@ -77,7 +76,7 @@ fn tell(luma: &[f32], cb: &[f32], cr: &[f32], g: Greymap, plan: &[u16], differen
     let mut p1 = tower_blocks::room::unwritten();
     let mut p2 = tower_blocks::room::unwritten();
     let from = 0;
-    let to = first::within(g.area(), 4096);
+    let to = g.area().min(4096);
     tell_on(
         &mut p0[from..to],
         &mut p1[from..to],
@@ -95,7 +94,7 @@ pub fn show(name: &[u8], luma: &[f32], cb: &[f32], cr: &[f32], g: Greymap) {
     let mut plan = room::rows();
     let mut differences = room::differences();
     tower_planner::make(luma, cb, cr, g, &mut plan, &mut differences);
-    let rows = first::words(&plan, 32 * tower_blocks::jobs(g));
+    let rows = series::first(&plan, 32 * tower_blocks::jobs(g));
     colour_page::print_heading(name, g);
     tell(luma, cb, cr, g, rows, &differences);
     map::print_map(g, rows);

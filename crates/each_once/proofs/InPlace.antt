@@ -1,17 +1,19 @@
 -- The plan's own order is accepted, whatever clashes. Assumes nothing.
-use mathlib.Core.Path.{◌≡◌, refl}
+use mathlib.Core.Path.{◌≡◌, refl, sym}
 use mathlib.Core.Bool.{Bool, true, false, not, ◌||◌}
-use mathlib.Core.List.{List}
-use Prim.Native.Nat.{ℕ, ◌<◌}
+use mathlib.Core.List.{List, [], ◌∷◌}
+use Prim.Native.Nat.{ℕ, zero, suc, ◌+◌, ◌<◌}
+use native.Mathlib.Nat.{zero-add}
 use native.Mathlib.Omega.{arith}
-use lib.Dec.{ltb}
+use lib.Dec.{ltb, eqb}
 use lib.ListN.{length, get_or}
 use borrow.Author.Tests.{lt-ltb}
+use Rattle.std.specs.List.{list_all, enumerate_from}
 use Rattle.reorder.specs.Test.{Decides, all_below}
 use Rattle.reorder.specs.Entry.{place}
 use Rattle.reorder.specs.Once.{Once}
 use Rattle.reorder.specs.Check.{once_b, kept_b}
-use Rattle.reorder.proofs.Test.{eq-decides, all-decides}
+use Rattle.reorder.proofs.Test.{eq-decides, and-decides, all-decides, fails}
 use Rattle.reorder.proofs.Counts.{once-single}
 use Rattle.reorder.proofs.Places.{place-entry}
 use Rattle.reorder.proofs.Once.{once-of-fresh}
@@ -21,6 +23,26 @@ use Rattle.each_once.specs.PlanOrder.{is_plan_order}
 pub own-decides : (order : List ℕ) → Decides (is_plan_order order) ((k : ℕ) → k < length order → get_or order k 0 ≡ k)
 unfolding is_plan_order
 own-decides order = all-decides (length order) _ _ (λ k h. eq-decides (get_or order k 0) k)
+
+-- entries that are each held against their place, counted from n
+listed : (n : ℕ) (order : List ℕ)
+    → Decides (list_all (λ p. eqb p.1 p.0) (enumerate_from n order)) ((k : ℕ) → k < length order → get_or order k 0 ≡ n + k)
+listed n [] = (λ e k h. absurd (omega arith), λ h. refl)
+listed n (x ∷ xs) =
+    let d = and-decides _ _ _ _ (eq-decides x n) (listed (n + 1) xs) in (
+      λ e k. elim k as (λ k. k < length (x ∷ xs) → get_or (x ∷ xs) k 0 ≡ n + k) [
+        | zero ↦ λ h. omega (arith, (d.0 e).0)
+        | suc k ↦ λ h. omega (arith, (d.0 e).1 k (omega arith))
+      ],
+      λ h. d.1 (omega (arith, h 0 (omega arith)), λ k l. omega (arith, h (suc k) (omega arith))),
+    )
+
+alike : (a b : Bool) (P : Type 0) → Decides a P → Decides b P → a ≡ b
+alike true b P da db = sym (db.1 (da.0 refl))
+alike false b P da db = sym ((fails b P db).1 ((fails false P da).0 refl))
+
+pub own_listed : (order : List ℕ) → list_all (λ p. eqb p.1 p.0) (enumerate_from 0 order) ≡ is_plan_order order
+own_listed order = alike _ _ _ (simp zero-add at (listed 0 order)) (own-decides order)
 
 module _ (order : List ℕ) (own : is_plan_order order ≡ true) where
   at : (k : ℕ) → k < length order → get_or order k 0 ≡ k

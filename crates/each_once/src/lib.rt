@@ -11,17 +11,12 @@ fn once_with(order: &[u16], seen: &mut [bool]) -> bool
     ensures { result ≡ once_b (length order.now) order.now }
 {
     let n = order.len();
-    let mut b = 0;
-    while b < n {
-        let x = order[b] as usize;
-        if n <= x {
-            return false;
-        }
-        if seen[x] {
+    for &entry in order {
+        let x = entry as usize;
+        if n <= x || seen[x] {
             return false;
         }
         seen[x] = true;
-        b += 1;
     }
     true
 }
@@ -39,12 +34,8 @@ pub fn once(order: &[u16]) -> bool
 pub fn is_plan_order(order: &[u16]) -> bool
     ensures { result ≡ is_plan_order order.now }
 {
-    let mut k = 0;
-    while k < order.len() {
-        if order[k] as usize != k {
-            return false;
-        }
-        k += 1;
-    }
-    true
+    order
+        .iter()
+        .enumerate()
+        .all(|(k, &entry)| entry as usize == k)
 }

@@ -13,14 +13,6 @@ use Rattle.kernels.specs.Kernel.{five, taps5}
 use Rattle.edge_filter.specs.Filter.{padded}
 use Rattle.edge_filter.specs.Padded.{entry_at, Ends}
 
--- what a part of at most k entries asks of a list
-pub lend : (n k : ℕ) (xs ys : List ℤ) → k ≤ n → n ≤ length xs → Edge 4095 n xs
-    → (length (take k ys) ≤ length xs) × Edge 4095 (length (take k ys)) xs
-lend n k xs ys h l p =
-    let m = length-take k ys in
-    let u : length (take k ys) ≤ n = omega arith in
-    (omega arith, λ i j. p i (omega arith))
-
 abbrev pub rest : ℕ → List ℤ → List ℤ
 rest s xs = take (length xs - s) (drop s xs)
 
@@ -28,12 +20,7 @@ module _ (n : ℕ) (xs : List ℤ) (h : Ends n xs) where
   edge-from : (s m : ℕ) → s + m ≤ n + 7 → Edge 4095 m (rest s xs)
   edge-from s m r = rest-each (λ z. inside (pos 4095) z ≡ true) (n + 7) m s xs (pos 0) h.long r h.samples
 
-  -- what a part of at most k entries asks of the list that is lent from s on, to be copied and to be filtered
-  pub rest-copy : (s k : ℕ) (ys : List ℤ) → s + k ≤ n + 7 → (length (take k ys) ≤ length (rest s xs)) × Edge 4095 (length (take k ys)) (rest s xs)
-  rest-copy s k ys r =
-      let l = h.long in
-      lend k k (rest s xs) ys (omega arith) (omega (arith, rest-length s xs)) (edge-from s k r)
-
+  -- what a part of at most k entries, to be filtered, asks of the list that is lent from s on
   pub rest-blur : (s k : ℕ) (ys : List ℤ) → s + k + 4 ≤ n + 7
       → (length (take k ys) + 4 ≤ length (rest s xs)) × Edge 4095 (length (take k ys) + 4) (rest s xs)
   rest-blur s k ys r =

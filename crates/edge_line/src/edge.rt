@@ -47,11 +47,12 @@ pub fn read_line(
     requires by_index { (c : ℕ) → c < 2 * bs → Readable (run_at plane.now start stride (along bs first (end - bs) c)) }
     ensures { edge.new ≡ filled end (λ c. pos (reading (run_at plane.now start stride (along bs first (end - bs) c)))) edge.old }
 {
-    let mut from = 0;
-    if first < bs {
+    let from = if first < bs {
         run::read_and_repeat(plane, start, stride, first, bs, edge);
-        from = bs;
-    }
+        bs
+    } else {
+        0
+    };
     run::read_run(plane, start + from * stride, stride, &mut edge[from..end]);
 }
 
@@ -60,5 +61,5 @@ pub fn repeat_from(v: i32, from: usize, to: usize, edge: &mut [i32])
     requires { (from ≤ to) × (to ≤ length edge.old) }
     ensures { edge.new ≡ filled to (onward edge.old from v) edge.old }
 {
-    run::repeat(&mut edge[from..to], v);
+    rows::repeat(&mut edge[from..to], v);
 }

@@ -7,18 +7,14 @@ ghost use Rattle.edge_line.specs.Every.{every};
 ghost use Rattle.edge_line.specs.Run.{Run, run_at};
 
 // Whether each sample of a run is a number in 0..m.
+#[tactic(auto, unfolding(crate::specs::Every::every))]
 pub fn run_in_range(plane: &[f32], start: usize, stride: usize, n: usize, m: i32) -> bool
     requires { Run (length plane.now) start stride n × (inside (pos 4095) m ≡ true) }
     ensures { result ≡ every (λ i. is_sample m (run_at plane.now start stride i)) n }
 {
     let mut ok = true;
-    let mut at = start;
-    let mut i = 0;
-    while i < n {
-        let here = samples::is_sample(plane[at], m);
-        ok = ok & here;
-        at += stride;
-        i += 1;
+    for i in 0..n {
+        ok &= samples::is_sample(plane[start + i * stride], m);
     }
     ok
 }
@@ -29,24 +25,7 @@ pub fn read_run(plane: &[f32], start: usize, stride: usize, part: &mut [i32])
     requires by_index { (i : ℕ) → i < length part.old → Readable (run_at plane.now start stride i) }
     ensures { part.new ≡ tab (length part.old) (λ i. pos (reading (run_at plane.now start stride i))) }
 {
-    let mut at = start;
-    let mut i = 0;
-    while i < part.len() {
-        part[i] = samples::read_sample(plane[at]);
-        at += stride;
-        i += 1;
-    }
-}
-
-// One number, all over a part of an edge.
-pub fn repeat(part: &mut [i32], v: i32)
-    ensures { part.new ≡ tab (length part.old) (λ i. v) }
-{
-    let mut i = 0;
-    while i < part.len() {
-        part[i] = v;
-        i += 1;
-    }
+    rows::fill_long(part, |i| samples::read_sample(plane[start + i * stride]));
 }
 
 // Entries from the first on: a run up to `end`, then the entry before `end` again up to `all`.
@@ -62,8 +41,7 @@ pub fn read_and_repeat(
     requires by_index { (i : ℕ) → i < end → Readable (run_at plane.now start stride i) }
     ensures { edge.new ≡ filled all (λ i. pos (reading (run_at plane.now start stride (min i (end - 1))))) edge.old }
 {
-    let zero = 0;
-    read_run(plane, start, stride, &mut edge[zero..end]);
+    read_run(plane, start, stride, &mut edge[..end]);
     let last = edge[end - 1];
-    repeat(&mut edge[end..all], last);
+    rows::repeat(&mut edge[end..all], last);
 }

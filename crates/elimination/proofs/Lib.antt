@@ -1,3 +1,2 @@
 -- Laws of elimination.
-pub mod Calls
 pub mod Read

@@ -1,7 +1,7 @@
 -- "Elimination and prediction are as in `gauss_elimination` and `predict_block`" (document 01, Colour parameters): three unknowns from nine sums, by
 -- elimination and back substitution, over whole numbers.
 use Rattle.std.specs.Prelude.{ℕ, ◌-◌, ◌*◌, ◌^◌, ◌≤◌, ℤ, nat_abs, ◌+ℤ◌}
-use Rattle.elimination.specs.Rows.{unit, reduced, unit_row, reduced_row, unit_pair, reduced_pair}
+use Rattle.elimination.specs.Rows.{unit, reduced, row, unit_row, reduced_row, unit_pair, reduced_pair}
 use Rattle.elimination.specs.declared.rows.Pair.{Pair}
 use Rattle.elimination.specs.declared.rows.Row.{Row}
 use Rattle.elimination.specs.declared.Sums.{Sums}
@@ -30,24 +30,24 @@ regular D = 2 * 2 ^ (D - 8)
 
 -- the rows as elimination leaves them
 unfoldable pub first_row : Sums → ℤ → Row
-first_row s reg = unit_row (s.a00 +ℤ reg) (record { y = s.a01; z = s.a02; t = s.y0 })
+first_row s reg = unit_row (s.a00 +ℤ reg) (row s.a01 s.a02 s.y0)
 
 unfoldable pub second_row : Sums → ℤ → Row
-second_row s reg = reduced_row (record { y = s.a11 +ℤ reg; z = s.a12; t = s.y1 }) s.a01 (first_row s reg)
+second_row s reg = reduced_row (row (s.a11 +ℤ reg) s.a12 s.y1) s.a01 (first_row s reg)
 
 unfoldable pub third_row : Sums → ℤ → Row
-third_row s reg = reduced_row (record { y = s.a12; z = s.a22 +ℤ reg; t = s.y2 }) s.a02 (first_row s reg)
+third_row s reg = reduced_row (row s.a12 (s.a22 +ℤ reg) s.y2) s.a02 (first_row s reg)
 
 unfoldable pub second_pair : Sums → ℤ → Pair
-second_pair s reg = unit_pair (second_row s reg).y (record { z = (second_row s reg).z; t = (second_row s reg).t })
+second_pair s reg = unit_pair (second_row s reg).y (second_row s reg).rest
 
 unfoldable pub third_pair : Sums → ℤ → Pair
-third_pair s reg = reduced_pair (record { z = (third_row s reg).z; t = (third_row s reg).t }) (third_row s reg).y (second_pair s reg)
+third_pair s reg = reduced_pair (third_row s reg).rest (third_row s reg).y (second_pair s reg)
 
 -- back substitution: the last unknown first
 abbrev pub backward : Row → Pair → ℤ → Params
 backward u v x2 =
-    record { x0 = reduced (reduced u.t u.y (reduced v.t v.z x2)) u.z x2; x1 = reduced v.t v.z x2; x2 = x2 }
+    record { x0 = reduced (reduced u.rest.t u.y (reduced v.t v.z x2)) u.rest.z x2; x1 = reduced v.t v.z x2; x2 = x2 }
 
 unfoldable pub solved : Sums → ℤ → Params
 solved s reg = backward (first_row s reg) (second_pair s reg) (unit (third_pair s reg).z (third_pair s reg).t)

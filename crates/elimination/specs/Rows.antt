@@ -17,12 +17,9 @@ unit p v = mul_fixed v (scale_of (pivot p)) (ilog2 (pivot p))
 unfoldable pub reduced : ℤ → ℤ → ℤ → ℤ
 reduced v f u = v -ℤ mul_fixed f u 16
 
--- a row after its pivot: with three columns left, and with two
-abbrev pub unit_row : ℤ → Row → Row
-unit_row p r = record { y = unit p r.y; z = unit p r.z; t = unit p r.t }
-
-abbrev pub reduced_row : Row → ℤ → Row → Row
-reduced_row r f u = record { y = reduced r.y f u.y; z = reduced r.z f u.z; t = reduced r.t f u.t }
+-- a row after its pivot, of three columns, and what it has after the first of these
+abbrev pub row : ℤ → ℤ → ℤ → Row
+row y z t = record { y = y; rest = record { z = z; t = t } }
 
 abbrev pub unit_pair : ℤ → Pair → Pair
 unit_pair p r = record { z = unit p r.z; t = unit p r.t }
@@ -30,12 +27,17 @@ unit_pair p r = record { z = unit p r.z; t = unit p r.t }
 abbrev pub reduced_pair : Pair → ℤ → Pair → Pair
 reduced_pair r f u = record { z = reduced r.z f u.z; t = reduced r.t f u.t }
 
--- every number of it within m
-pub record RowIn (m : ℕ) (r : Row) : Type 0 where
-  pub y : nat_abs r.y ≤ m
-  pub z : nat_abs r.z ≤ m
-  pub t : nat_abs r.t ≤ m
+abbrev pub unit_row : ℤ → Row → Row
+unit_row p r = record { y = unit p r.y; rest = unit_pair p r.rest }
 
+abbrev pub reduced_row : Row → ℤ → Row → Row
+reduced_row r f u = record { y = reduced r.y f u.y; rest = reduced_pair r.rest f u.rest }
+
+-- every number of it within m
 pub record PairIn (m : ℕ) (r : Pair) : Type 0 where
   pub z : nat_abs r.z ≤ m
   pub t : nat_abs r.t ≤ m
+
+pub record RowIn (m : ℕ) (r : Row) : Type 0 where
+  pub y : nat_abs r.y ≤ m
+  pub rest : PairIn m r.rest

@@ -9,7 +9,7 @@ ghost use Rattle.elimination.specs.Rows.{RowIn, PairIn};
 ghost use Rattle.numbers.specs.Depth.{bits_of};
 ghost use Rattle.elimination.specs.Elimination.{SumsIn, ParamsIn, regular, backward, solved};
 
-use crate::rows::{Pair, Row};
+use crate::rows::{Pair, Pivot, Row};
 use numbers::depth::Depth;
 
 // The nine sums: the upper half of a symmetric matrix, and the right side.
@@ -40,12 +40,8 @@ fn backward(u: Row, v: Pair, x2: i32) -> Params
     ensures { (result ≡ backward u v x2) × ParamsIn (3 * 2 ^ 29) result }
 {
     let x1 = rows::reduced(v.t, v.z, x2);
-    let x0 = rows::reduced(rows::reduced(u.t, u.y, x1), u.z, x2);
-    Params {
-        x0: x0,
-        x1: x1,
-        x2: x2,
-    }
+    let x0 = rows::reduced(rows::reduced(u.rest.t, u.y, x1), u.rest.z, x2);
+    Params { x0, x1, x2 }
 }
 
 // What goes onto the diagonal.
@@ -64,34 +60,10 @@ pub fn gauss_elimination(s: Sums, reg: i32) -> Params
     requires { SumsIn (2 ^ 22) s × (nat_abs reg ≤ 32) }
     ensures { (result ≡ solved s reg) × ParamsIn (3 * 2 ^ 29) result }
 {
-    let u = rows::unit_row(
-        s.a00 + reg,
-        Row {
-            y: s.a01,
-            z: s.a02,
-            t: s.y0,
-        },
-    );
-    let r = rows::reduced_row(
-        Row {
-            y: s.a11 + reg,
-            z: s.a12,
-            t: s.y1,
-        },
-        s.a01,
-        u,
-    );
-    let q = rows::reduced_row(
-        Row {
-            y: s.a12,
-            z: s.a22 + reg,
-            t: s.y2,
-        },
-        s.a02,
-        u,
-    );
-    let v = rows::unit_pair(r.y, Pair { z: r.z, t: r.t });
-    let w = rows::reduced_pair(Pair { z: q.z, t: q.t }, q.y, v);
-    let x2 = rows::unit(w.z, w.t);
-    backward(u, v, x2)
+    let u = Pivot::of(s.a00 + reg).unit_row(Row::of(s.a01, s.a02, s.y0));
+    let r = Row::of(s.a11 + reg, s.a12, s.y1).less(s.a01, u);
+    let q = Row::of(s.a12, s.a22 + reg, s.y2).less(s.a02, u);
+    let v = Pivot::of(r.y).unit_pair(r.rest);
+    let w = q.rest.less(q.y, v);
+    backward(u, v, Pivot::of(w.z).unit(w.t))
 }

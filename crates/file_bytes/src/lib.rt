@@ -12,13 +12,8 @@ pub fn read_full<R: Read>(reader: &mut R, buf: &mut [u8]) -> usize
     let mut done = 0;
     while done < buf.len() {
         match reader.read(&mut buf[done..]) {
-            Ok(n) => {
-                if n == 0 {
-                    return done;
-                }
-                done += n;
-            }
-            Err(_) => return done,
+            Ok(n) if n > 0 => done += n,
+            _ => break,
         }
     }
     done

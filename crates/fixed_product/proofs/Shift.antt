@@ -1,6 +1,5 @@
 -- Powers of two, the highest set bit, and how large a shifted number is (document 01, Colour parameters). Assumes nothing.
 use mathlib.Core.Path.{◌≡◌, refl, sym, ap, ap₂, ◌∙◌, subst}
-use mathlib.Core.Bool.{true, false}
 use mathlib.Core.Logic.{◌⊎◌, inl, inr, ⊎_elim}
 use Prim.Native.Nat.{ℕ, suc, ◌+◌, ◌-◌, ◌*◌, ◌/◌, ◌^◌, ◌≤◌, ◌<◌}
 use native.Mathlib.Omega.{arith}
@@ -8,15 +7,11 @@ use native.Mathlib.Nat as N
 use lib.Bits.{bit_or, or_step, or_zero_r}
 use lib.Pow.{shr_lt}
 use lib.Count.{count_leading_zeros, leading_top, leading_of_zero}
-use lib.IntN.{ℤ, pos, negsuc, nat_abs, ◌+ℤ◌, ◌-ℤ◌}
-use lib.Signed.{shr_z, mag, mag_shr, lt_z, non_neg}
+use lib.IntN.{ℤ, pos, negsuc, nat_abs}
+use lib.Signed.{shr_z, mag, mag_shr}
 use native.Mathlib.Numerals.{add-one}
 use mir.Syntax.{w32}
-use mir.Val.{SFits, Fits}
-use lib.Dec.{T}
-use borrow.Author.Tests.{ltb-true}
-use Rattle.signed.proofs.Parts.{same, add, sub, sfits}
-use Rattle.signed.proofs.Order.{lt_z-false}
+use mir.Val.{SFits}
 use Rattle.signed.proofs.Naturals.{pow-le, pow_below}
 use Rattle.fixed_product.specs.Product.{ilog2, digits}
 
@@ -38,6 +33,16 @@ ilog2-is n p h =
       },
       omega arith,
     )
+
+-- the one k with 2 ^ k ≤ n < 2 * 2 ^ k
+pub ilog2-by : (n k : ℕ) → 2 ^ k ≤ n → n < 2 * 2 ^ k → n < 2 ^ 32 → ilog2 n ≡ k
+ilog2-by n k l g h =
+    let p : 0 < n = omega (arith, N.one-le-pow k 2 (N.zero-lt-suc 1)) in
+    let a = (ilog2-is n p h).0 in
+    let j = ilog2 n in
+    let up : k < suc j = pow_below k (suc j) (omega (arith, a.high)) in
+    let dn : j < suc k = pow_below j (suc k) (omega (arith, a.low, N.pow-succ' 2 k)) in
+    omega arith
 
 pub ilog2-le : (n : ℕ) → ilog2 n ≤ 31
 unfolding ilog2
@@ -91,26 +96,3 @@ shr-pow (negsuc n) A s h = shr-pow-pos n A s h
 
 pub shr-fits : (z : ℤ) (m : ℕ) → SFits w32 z → SFits w32 (shr_z z m)
 shr-fits z m f = record { sfits = N.lt_of_le_of_lt (mag_shr z m) f.sfits }
-
--- a negative number turned round by way of z + 1, which fits where -z does not
-pub record Turned (z : ℤ) : Type 0 where
-  pub next : SFits w32 (z +ℤ pos 1)
-  pub turn : pos 0 -ℤ (z +ℤ pos 1) ≡ pos (mag z)
-  pub small : mag z < 2 ^ 31
-  pub abs : mag z + 1 ≡ nat_abs z
-
-pub turned : (z : ℤ) → lt_z z (pos 0) ≡ true → SFits w32 z → Turned z
-turned (pos n) h f = absurd (omega (arith, ltb-true n 0 h))
-turned (negsuc n) h f =
-    let b : n < 2 ^ 31 = f.sfits in
-    record {
-      next = sfits w32 (negsuc n +ℤ pos 1) (omega (arith, add (negsuc n) (pos 1))) (omega (arith, add (negsuc n) (pos 1)));
-      turn = same _ (pos n) (omega (arith, sub (pos 0) (negsuc n +ℤ pos 1), add (negsuc n) (pos 1)));
-      small = b;
-      abs = omega arith;
-    }
-
--- a number that is not negative
-pub upward : (z : ℤ) → lt_z z (pos 0) ≡ false → SFits w32 z → T (non_neg z) × Fits w32 (nat_abs z)
-upward (pos n) h f = (tt, record { fits = omega (arith, f.sfits) })
-upward (negsuc n) h f = absurd (omega (arith, lt_z-false (negsuc n) (pos 0) h))

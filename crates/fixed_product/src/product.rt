@@ -3,29 +3,18 @@
 ghost use Rattle.std.specs.Prelude.{◌≡◌, ◌≤◌, ◌^◌, ◌-◌, nat_abs};
 ghost use Rattle.fixed_product.specs.Product.{ilog2, digits, rounded, mul_fixed, short_limit};
 
-// |a|, also of i32::MIN.
-pub fn magnitude(a: i32) -> u32
-    ensures { result ≡ nat_abs a }
-{
-    if a < 0 {
-        (0 - (a + 1)) as u32 + 1
-    } else {
-        a as u32
-    }
-}
-
 // The place of the highest set bit; 0 for 0, as for 1.
 pub fn ilog2(x: u32) -> u32
     ensures { result ≡ ilog2 x }
 {
-    31 - u32::leading_zeros(x | 1)
+    (x | 1).ilog2()
 }
 
 // How many binary digits |a| has: 1 to 32.
 pub fn digits(a: i32) -> u32
     ensures { (result ≡ digits a) × (result ≤ 32) }
 {
-    ilog2(magnitude(a)) + 1
+    ilog2(a.unsigned_abs()) + 1
 }
 
 // p / 2 ^ k rounded to the nearest, halves away from 0, with no branch: a shift rounds down, so a negative number has one less added.
@@ -42,30 +31,21 @@ fn rounded(p: i32, k: u32) -> i32
     requires { nat_abs p ≤ 2 ^ 30 }
     ensures { result ≡ rounded p k }
 {
-    if k == 0 {
-        return p;
+    match k {
+        0 => p,
+        1..=29 => away(p, k),
+        _ => 0,
     }
-    if 29 < k {
-        return 0;
-    }
-    away(p, k)
-}
-
-// a - b, and 0 where b is more: a difference that stops at 0.
-pub fn monus(a: u32, b: u32) -> u32
-    ensures { result ≡ a - b }
-{
-    if a < b { 0 } else { a - b }
 }
 
 // a times b, shifted down by `shift` and rounded, with digits dropped first where the two have more than 29.
 pub fn mul_fixed32_adapt(a: i32, b: i32, shift: u32) -> i32
     ensures { result ≡ mul_fixed a b shift }
 {
-    let need = monus(digits(a) + digits(b), 29);
+    let need = (digits(a) + digits(b)).saturating_sub(29);
     let s1 = need / 2;
     let s2 = need - s1;
-    rounded((a >> s1) * (b >> s2), monus(shift, need))
+    rounded((a >> s1) * (b >> s2), shift.saturating_sub(need))
 }
 
 // A second factor below this, and not negative, leaves no digit over: `mul_fixed32_fits` of mhccp.rs.

@@ -1,101 +1,46 @@
 // A plain greymap's header: P2, its width, its height and its largest value, with blanks or comments between them.
-ghost use Rattle.std.specs.Prelude.{◌≤◌};
+ghost use Rattle.std.specs.Prelude.{◌≤◌, IfOk};
 
+use crate::fault::Fault;
 use text::word;
-use text::word::Found;
+use text::word::WordFault;
 
 // The most samples along a side.
 const MOST: u32 = 64;
 
-// What an entry of the header stands for, and the place after it.
-#[derive(Clone, Copy)]
-pub enum Entry {
-    Is(u8, usize),
-    NotTaken,
-    NoNumber,
+// The text after the word P2, if it stands at the front.
+pub fn past_word(s: &[u8]) -> Option<&[u8]> {
+    let rest = s.strip_prefix(b"P2")?;
+    let end = *rest.first()?;
+    word::is_end(end).then_some(rest)
 }
 
-// The place after the word P2, where it stands at a place.
-#[derive(Clone, Copy)]
-pub enum Start {
-    Past(usize),
-    Missing,
-}
-
-// Whether three bytes are the word P2 with its end.
-fn is_plain(p: u8, two: u8, end: u8) -> bool {
-    if p != b'P' {
-        return false;
-    }
-    if two != b'2' {
-        return false;
-    }
-    word::is_end(end)
-}
-
-// The word P2 at a place.
-pub fn past_word(s: &[u8], at: usize) -> Start {
-    if s.len() < 3 {
-        return Start::Missing;
-    }
-    if s.len() - 3 < at {
-        return Start::Missing;
-    }
-    if is_plain(s[at], s[at + 1], s[at + 2]) {
-        return Start::Past(at + 2);
-    }
-    Start::Missing
-}
-
-// The blocks along a side of so many samples.
-fn blocks(samples: u32, next: usize) -> Entry
-    requires { samples ≤ 64 }
+// A number that is at most `most`, and the text after it; `too_large` is what is wrong with any other.
+fn number(s: &[u8], most: u32, too_large: Fault) -> Result<(u32, &[u8]), Fault>
+    ensures { IfOk result (λ r. r.0 ≤ most) }
 {
-    if samples == 0 {
-        return Entry::NotTaken;
-    }
-    if samples % 8 != 0 {
-        return Entry::NotTaken;
-    }
-    Entry::Is((samples / 8) as u8, next)
+    word::number(word::past_comments(s), most).map_err(|why| match why {
+        WordFault::TooLarge => too_large,
+        WordFault::NoNumber | WordFault::Nothing => Fault::NoHeader,
+    })
 }
 
-// The side at a place.
-pub fn side(s: &[u8], at: usize) -> Entry {
-    let w = word::number(s, word::past_comments(s, at), MOST);
-    let found = w.found;
-    match found {
-        Found::Number => blocks(w.value, w.next),
-        Found::TooLarge => Entry::NotTaken,
-        _ => Entry::NoNumber,
+// The blocks along a side, and the text after it; `bad` is what is wrong with a side that is not whole blocks.
+pub fn side(s: &[u8], bad: Fault) -> Result<(u8, &[u8]), Fault> {
+    let (samples, rest) = number(s, MOST, bad)?;
+    if samples == 0 || samples % 8 != 0 {
+        return Err(bad);
     }
+    Ok(((samples / 8) as u8, rest))
 }
 
 // "Bit depth D is 8, 10 or 12; M = 2^D - 1." (document 01)
-fn depth(most: u32, next: usize) -> Entry {
+pub fn depth(s: &[u8]) -> Result<(u16, &[u8]), Fault> {
+    let (most, rest) = number(s, 4095, Fault::BadLargest)?;
     match most {
-        255 => Entry::Is(8, next),
-        1023 => Entry::Is(10, next),
-        4095 => Entry::Is(12, next),
-        _ => Entry::NotTaken,
-    }
-}
-
-pub fn largest(d: u8) -> u16 {
-    match d {
-        8 => 255,
-        10 => 1023,
-        _ => 4095,
-    }
-}
-
-// The depth at a place.
-pub fn level(s: &[u8], at: usize) -> Entry {
-    let w = word::number(s, word::past_comments(s, at), 4095);
-    let found = w.found;
-    match found {
-        Found::Number => depth(w.value, w.next),
-        Found::TooLarge => Entry::NotTaken,
-        _ => Entry::NoNumber,
+        255 => Ok((8, rest)),
+        1023 => Ok((10, rest)),
+        4095 => Ok((12, rest)),
+        _ => Err(Fault::BadLargest),
     }
 }

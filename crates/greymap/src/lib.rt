@@ -9,102 +9,64 @@ pub mod still;
 ghost use Rattle.std.specs.Prelude.{◌≤◌};
 
 use fault::Fault;
-use header::{Entry, Start};
 use series::checked;
 use text::word;
-use text::word::Found;
 
 // How many blocks there are across and down, and the depth D.
-#[derive(Clone, Copy)]
+#[derive(Clone, Copy, Debug, PartialEq, Eq)]
 pub struct Greymap {
     pub across: u8,
     pub down: u8,
     pub d: u16,
 }
 
-// A greymap and the place after it, or what is wrong with it.
-#[derive(Clone, Copy)]
-pub enum FoundMap {
-    Is(Greymap, usize),
-    Not(Fault),
-}
-
 impl Greymap {
     pub fn width(self) -> usize
         ensures { result ≤ 2040 }
     {
-        8 * self.across as usize
+        8 * usize::from(self.across)
     }
 
     pub fn height(self) -> usize {
-        8 * self.down as usize
+        8 * usize::from(self.down)
     }
 
     // How many blocks there are, each of which is a job.
     pub fn jobs(self) -> usize
         ensures { result ≤ 65025 }
     {
-        product(self.across, self.down) as usize
+        usize::from(product(self.across, self.down))
     }
 
     // How many samples there are.
     pub fn area(self) -> usize {
         64 * self.jobs()
     }
+
+    // The largest value of a sample.
+    fn largest(self) -> u16 {
+        match self.d {
+            8 => 255,
+            10 => 1023,
+            _ => 4095,
+        }
+    }
 }
 
 pub fn product(a: u8, b: u8) -> u16
     ensures { result ≤ 65025 }
 {
-    a as u16 * b as u16
+    u16::from(a) * u16::from(b)
 }
 
-// What is wrong with an entry of the header.
-fn wrong(entry: Entry, not_taken: Fault) -> FoundMap {
-    match entry {
-        Entry::NotTaken => FoundMap::Not(not_taken),
-        _ => FoundMap::Not(Fault::NoHeader),
-    }
-}
-
-// The samples at a place.
-fn samples(s: &[u8], at: usize, g: Greymap, most: u16, plane: &mut [f32]) -> FoundMap {
-    let from = 0;
-    let n = g.area();
-    if plane.len() < n {
-        return FoundMap::Not(Fault::NoRoom);
-    }
-    let read = checked::samples(s, word::past_comments(s, at), most, &mut plane[from..n]);
-    let found = read.found;
-    match found {
-        Found::Number => FoundMap::Is(g, read.next),
-        Found::NoNumber => FoundMap::Not(Fault::NoSample(read.last)),
-        Found::TooLarge => FoundMap::Not(Fault::TooBright(read.last)),
-        Found::Nothing => FoundMap::Not(Fault::Short(read.last)),
-    }
-}
-
-// The greymap at a place, its samples in the plane's first places; or what is wrong with it.
-pub fn read(s: &[u8], at: usize, plane: &mut [f32]) -> FoundMap {
-    let Start::Past(past_start) = header::past_word(s, at) else {
-        return FoundMap::Not(Fault::NoGreymap);
-    };
-    let width = header::side(s, past_start);
-    let Entry::Is(across, past_width) = width else {
-        return wrong(width, Fault::BadWidth);
-    };
-    let height = header::side(s, past_width);
-    let Entry::Is(down, past_height) = height else {
-        return wrong(height, Fault::BadHeight);
-    };
-    let bright = header::level(s, past_height);
-    let Entry::Is(d, next) = bright else {
-        return wrong(bright, Fault::BadLargest);
-    };
-    let g = Greymap {
-        across,
-        down,
-        d: d as u16,
-    };
-    samples(s, next, g, header::largest(d), plane)
+// The greymap at a text's front, its samples in the plane's first places, and the text after it.
+pub fn read<'a>(s: &'a [u8], plane: &mut [f32]) -> Result<(Greymap, &'a [u8]), Fault> {
+    let rest = header::past_word(s).ok_or(Fault::NoGreymap)?;
+    let (across, rest) = header::side(rest, Fault::BadWidth)?;
+    let (down, rest) = header::side(rest, Fault::BadHeight)?;
+    let (d, rest) = header::depth(rest)?;
+    let g = Greymap { across, down, d };
+    let samples = plane.get_mut(..g.area()).ok_or(Fault::NoRoom)?;
+    let rest = checked::samples(word::past_comments(rest), g.largest(), samples)?;
+    Ok((g, rest))
 }

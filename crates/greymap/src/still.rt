@@ -1,83 +1,89 @@
 // A still's text: one plain greymap, or three of one size and one largest value, one after the other: a colour still's luma, Cb and Cr.
 use crate::fault::Fault;
-use crate::header::Start;
-use crate::{FoundMap, Greymap, header};
+use crate::{Greymap, header};
+use std::fmt;
 use text::word;
 
-// The still, or the number of the greymap that is wrong and what is wrong with it.
-#[derive(Clone, Copy)]
-pub enum FoundStill {
+#[derive(Clone, Copy, Debug, PartialEq, Eq)]
+pub enum Still {
     Grey(Greymap),
     Colour(Greymap),
-    Not(u8, Fault),
 }
 
-// What follows from a place on: nothing, a greymap that starts there, or something else.
-#[derive(Clone, Copy)]
-enum Next {
-    End,
-    Map(usize),
-    Other,
+// The number of the greymap that is wrong, from 1 on, and what is wrong with it.
+#[derive(Clone, Copy, Debug, PartialEq, Eq)]
+pub struct StillFault {
+    pub number: u8,
+    pub fault: Fault,
 }
 
-fn next_map(s: &[u8], at: usize) -> Next {
-    let i = word::past_blanks(s, at);
-    if s.len() <= i {
-        return Next::End;
-    }
-    match header::past_word(s, i) {
-        Start::Past(_) => Next::Map(i),
-        Start::Missing => Next::Other,
+// The number is told of a further greymap.
+impl fmt::Display for StillFault {
+    fn fmt<W: fmt::Write>(&self, f: &mut fmt::Formatter<W>) -> fmt::Result {
+        let StillFault { number, fault } = *self;
+        if 1 < number {
+            write!(f, "greymap {number}: ")?;
+        }
+        write!(f, "{fault}")
     }
 }
 
-fn is_alike(a: Greymap, b: Greymap) -> bool {
-    (a.across == b.across) & (a.down == b.down) & (a.d == b.d)
-}
-
-// The greymap at a place, which is as large as the still's first.
-fn read_alike(s: &[u8], at: usize, g: Greymap, plane: &mut [f32]) -> FoundMap {
-    let found = crate::read(s, at, plane);
-    let FoundMap::Is(other, _) = found else {
-        return found;
-    };
-    if is_alike(g, other) {
-        return found;
-    }
-    FoundMap::Not(Fault::OtherSize)
-}
-
-// The third greymap at a place, and nothing after it.
-fn read_last(s: &[u8], at: usize, g: Greymap, cr: &mut [f32]) -> FoundStill {
-    match read_alike(s, at, g, cr) {
-        FoundMap::Not(fault) => FoundStill::Not(3, fault),
-        FoundMap::Is(_, next) => match next_map(s, next) {
-            Next::End => FoundStill::Colour(g),
-            _ => FoundStill::Not(3, Fault::TooMuch),
-        },
+impl Fault {
+    // As the fault of a still's greymap, by its number.
+    pub fn of(self, number: u8) -> StillFault {
+        StillFault {
+            number,
+            fault: self,
+        }
     }
 }
 
-// The second greymap at a place, and the third after it.
-fn read_chroma(s: &[u8], at: usize, g: Greymap, cb: &mut [f32], cr: &mut [f32]) -> FoundStill {
-    match read_alike(s, at, g, cb) {
-        FoundMap::Not(fault) => FoundStill::Not(2, fault),
-        FoundMap::Is(_, next) => match next_map(s, next) {
-            Next::Map(third) => read_last(s, third, g, cr),
-            Next::End => FoundStill::Not(2, Fault::Two),
-            Next::Other => FoundStill::Not(2, Fault::TooMuch),
-        },
+// The text from the next greymap on, if one follows. Nothing else may.
+fn next_map(s: &[u8]) -> Result<Option<&[u8]>, Fault> {
+    let rest = word::past_blanks(s);
+    if rest.is_empty() {
+        return Ok(None);
     }
+    header::past_word(rest).ok_or(Fault::TooMuch)?;
+    Ok(Some(rest))
+}
+
+// The greymap at the front, and the text from the next one on.
+fn read_map<'a>(s: &'a [u8], plane: &mut [f32]) -> Result<(Greymap, Option<&'a [u8]>), Fault> {
+    let (g, rest) = crate::read(s, plane)?;
+    Ok((g, next_map(rest)?))
+}
+
+// The same of a further greymap, which is as large as the still's first.
+fn read_alike<'a>(
+    s: &'a [u8],
+    first: Greymap,
+    plane: &mut [f32],
+) -> Result<Option<&'a [u8]>, Fault> {
+    let (g, rest) = crate::read(s, plane)?;
+    if g != first {
+        return Err(Fault::OtherSize);
+    }
+    next_map(rest)
 }
 
 // The still that a text is, its samples in the planes' first places: a grey still's in the first plane alone.
-pub fn read(s: &[u8], luma: &mut [f32], cb: &mut [f32], cr: &mut [f32]) -> FoundStill {
-    match crate::read(s, 0, luma) {
-        FoundMap::Not(fault) => FoundStill::Not(1, fault),
-        FoundMap::Is(g, next) => match next_map(s, next) {
-            Next::End => FoundStill::Grey(g),
-            Next::Map(second) => read_chroma(s, second, g, cb, cr),
-            Next::Other => FoundStill::Not(1, Fault::TooMuch),
-        },
+pub fn read(
+    s: &[u8],
+    luma: &mut [f32],
+    cb: &mut [f32],
+    cr: &mut [f32],
+) -> Result<Still, StillFault> {
+    let (g, second) = read_map(s, luma).map_err(|fault| fault.of(1))?;
+    let Some(second) = second else {
+        return Ok(Still::Grey(g));
+    };
+    let third = read_alike(second, g, cb)
+        .and_then(|third| third.ok_or(Fault::Two))
+        .map_err(|fault| fault.of(2))?;
+    match read_alike(third, g, cr) {
+        Ok(None) => Ok(Still::Colour(g)),
+        Ok(Some(_)) => Err(Fault::TooMuch.of(3)),
+        Err(fault) => Err(fault.of(3)),
     }
 }

@@ -3,3 +3,4 @@ pub mod Fill
 pub mod Block
 pub mod RowLoop
 pub mod Table
+pub mod Loop

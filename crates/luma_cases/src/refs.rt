@@ -1,61 +1,52 @@
 // A case of `build_refs`: its edges and its corner are held against what the Rust gave.
 use block_spec::spec::IntraRefSpec;
-use series::{fill, first, room, same};
+use series::{kind, room};
 use text::line;
+use text::line::Line;
 
 // The eleven numbers of a block and its neighbours, in the list's order, after the plane's two.
-fn spec_at(s: &[u8], at: usize) -> IntraRefSpec {
+fn spec_of(line: Line<'_>) -> IntraRefSpec {
     IntraRefSpec {
-        x: line::word(s, at, 2),
-        y: line::word(s, at, 3),
-        b: line::word(s, at, 4),
-        d: line::word(s, at, 5),
-        have_above: line::flag(s, at, 6),
-        have_left: line::flag(s, at, 7),
-        top_right: line::word(s, at, 8),
-        bottom_left: line::word(s, at, 9),
-        available_above: line::word(s, at, 10),
-        available_left: line::word(s, at, 11),
-        base: line::word(s, at, 12),
+        x: line.word(2),
+        y: line.word(3),
+        b: line.word(4),
+        d: line.word(5),
+        have_above: line.flag(6),
+        have_left: line.flag(7),
+        top_right: line.word(8),
+        bottom_left: line.word(9),
+        available_above: line.word(10),
+        available_left: line.word(11),
+        base: line.word(12),
     }
 }
 
-// Whether the edges and the corner are those that stand in the list at a place, and nothing after them.
-fn refs_are(s: &[u8], at: usize, above: &[i32], left: &[i32], corner: &[i32]) -> bool {
-    let past_above = same::entries(s, at, above, 128);
-    let past_left = same::entries(s, past_above, left, 128);
-    line::ends(s, same::entries(s, past_left, corner, 1))
-}
-
-// Whether the call is done.
-fn built(
-    s: &[u8],
-    at: usize,
-    plane: &[f32],
-    above: &mut [i32],
-    left: &mut [i32],
-    corner: &mut [i32],
-) -> bool {
-    let width = line::size(s, at, 0);
-    let height = line::size(s, at, 1);
-    edges::build_refs(plane, width, height, spec_at(s, at), above, left, corner).is_done()
-}
-
-// Whether the edges of a plane are those that stand after it.
-fn edges_agree(s: &[u8], at: usize, next: usize, plane: &[f32]) -> bool {
-    let mut above = room::entries();
-    let mut left = room::entries();
+// The text after a case that agrees: the call is done, and its edges and its corner are those that stand after the plane.
+fn past_case(line: Line<'_>) -> Option<&[u8]> {
+    let mut room = [0.0; room::PLANE];
+    let plane = room.get_mut(..room::area(line.word(0), line.word(1)))?;
+    let rest = series::fill(line.past(13), plane, kind::float_of);
+    let mut above = [0; room::EDGE];
+    let mut left = [0; room::EDGE];
     let mut corner = [0; 1];
-    if !built(s, at, plane, &mut above, &mut left, &mut corner) {
-        return false;
+    let answer = edges::build_refs(
+        plane,
+        line.size(0),
+        line.size(1),
+        spec_of(line),
+        &mut above,
+        &mut left,
+        &mut corner,
+    );
+    if !answer.is_done() {
+        return None;
     }
-    refs_are(s, next, &above, &left, &corner)
+    let rest = series::same(rest, &above, u32::cast_signed)?;
+    let rest = series::same(rest, &left, u32::cast_signed)?;
+    series::same(rest, &corner, u32::cast_signed)
 }
 
-// Whether the case at a place agrees.
-pub fn agrees(s: &[u8], at: usize) -> bool {
-    let n = room::area(line::word(s, at, 0), line::word(s, at, 1));
-    let mut plane = room::plane();
-    let next = fill::samples_by_bits(s, line::past(s, at, 13), &mut plane, n);
-    edges_agree(s, at, next, first::samples(&plane, n))
+// Whether a case agrees, and nothing stands after it.
+pub fn agrees(line: Line<'_>) -> bool {
+    past_case(line).is_some_and(line::ends)
 }

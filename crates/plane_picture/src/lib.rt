@@ -8,7 +8,6 @@ ghost use Rattle.std.specs.Prelude.{◌≤◌};
 
 use crate::measure::Range;
 use greymap::Greymap;
-use series::first;
 use still_page::print;
 
 const RAMP: [u8; 10] = [b' ', b'.', b':', b'-', b'=', b'+', b'*', b'#', b'%', b'@'];
@@ -53,9 +52,9 @@ fn print_line(original: &[f32], rebuilt: &[f32], width: usize, from: usize, rang
     requires { (width ≤ 2040) × (from ≤ 4161600) }
 {
     print::say(b"     ");
-    print::say(first::bytes(&letters(original, width, from, range), width));
+    print::say(series::first(&letters(original, width, from, range), width));
     print::say(b"   ");
-    print::say(first::bytes(&letters(rebuilt, width, from, range), width));
+    print::say(series::first(&letters(rebuilt, width, from, range), width));
     print::say(b"\n");
 }
 

@@ -40,13 +40,11 @@ pub fn fill(a: i32, table: &mut [i64])
     ensures { WideTable a table.new }
 {
     let n = product::digits(a);
-    let mut z = 0;
-    while z < 12 {
-        let need = product::monus(n + (12 - z) as u32, 29);
+    for z in 0..12 {
+        let need = (n + (12 - z) as u32).saturating_sub(29);
         let s = need / 2;
         table[z] = cleared(a, s);
         table[12 + z] = mask(need - s);
-        z += 1;
     }
 }
 
@@ -56,7 +54,7 @@ fn kept_product(a: i32, table: &[i64], b: i32) -> i64
     ensures { result ≡ kept_product a b }
 {
     let n = b as u32;
-    let z = u32::leading_zeros(n | 1) as usize - 20;
+    let z = (n | 1).leading_zeros() as usize - 20;
     let kept = n & table[12 + z] as u32;
     table[z] * kept as i64
 }

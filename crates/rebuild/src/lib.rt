@@ -6,7 +6,6 @@ mod room;
 
 use greymap::Greymap;
 use picture_blocks::order;
-use series::first;
 
 // The run's answer, how many jobs it did, and how many samples equal the original's.
 #[derive(Clone, Copy)]
@@ -26,7 +25,7 @@ fn run(
     answers: &mut [u16],
 ) -> u32 {
     let from = 0;
-    let to = first::within(order.len(), answers.len());
+    let to = order.len().min(answers.len());
     plan::run(
         plane,
         g.width(),
@@ -52,7 +51,7 @@ fn on_plane(
     let answer = run(plane, g, plan, order, differences, &mut answers);
     Rebuilt {
         answer,
-        done: count::count_done(first::words(&answers, order.len())),
+        done: count::count_done(series::first(&answers, order.len())),
         equal: count::count_equal(original, plane),
     }
 }
@@ -67,9 +66,9 @@ fn rebuild(
 ) -> Rebuilt {
     let mut plane = room::unwritten();
     let from = 0;
-    let to = first::within(original.len(), 4096);
-    let rows = first::words(plan, 16 * g.jobs());
-    let jobs = first::words(order, g.jobs());
+    let to = original.len().min(4096);
+    let rows = series::first(plan, 16 * g.jobs());
+    let jobs = series::first(order, g.jobs());
     on_plane(&mut plane[from..to], original, g, rows, jobs, differences)
 }
 

@@ -2,14 +2,13 @@
 // square.
 #![tactic(auto)]
 
-ghost use Rattle.std.specs.Prelude.{◌≡◌, ◌^◌, ◌<◌, ◌≤◌, min, max, unsigned_abs};
+ghost use Rattle.std.specs.Prelude.{◌≡◌, ◌^◌, ◌<◌, ◌≤◌, unsigned_abs};
 ghost use Rattle.reciprocal.specs.Division.{piece, curve, moved, scale_of};
 ghost use Rattle.fixed_product.specs.Product.{ilog2};
 
 use fixed_product::product;
-use std::num;
 
-// The pieces: the weight of each one's square, where the square is 0, and the height there.
+// The pieces, in the tables that mhccp.rs has: the weight of each one's square, where the square is 0, and the height there.
 const POW2W: [i32; 8] = [214, 153, 113, 86, 67, 53, 43, 35];
 
 const POW2O: [i32; 8] = [4822, 5952, 6624, 6792, 6408, 5424, 3792, 1466];
@@ -40,26 +39,12 @@ fn moved(d: u32, s: u32) -> u32
     ensures { result ≡ moved d s }
 {
     if s < 14 {
-        return d << (14 - s);
+        d << (14 - s)
+    } else if s == 14 {
+        d
+    } else {
+        d.wrapping_add(1 << (s - 15)) >> (s - 14)
     }
-    if s == 14 {
-        return d;
-    }
-    num::wrapping_add_u32(d, 1 << (s - 15)) >> (s - 14)
-}
-
-// n, or the bound that it passes.
-fn clip(n: u32, least: u32, most: u32) -> u32
-    requires { least ≤ most }
-    ensures { result ≡ max least (min most n) }
-{
-    if n < least {
-        return least;
-    }
-    if most < n {
-        return most;
-    }
-    n
 }
 
 // A reciprocal: scale / 2 ^ (16 + shift).
@@ -74,9 +59,9 @@ pub fn division_scale_shift(d: u32) -> Reciprocal
     ensures { (result.scale ≡ scale_of d) × (result.shift ≡ ilog2 d) }
 {
     let shift = product::ilog2(d);
-    let n = clip(moved(d, shift), 1, 32767) % 16384;
+    let n = moved(d, shift).clamp(1, 32767) % 16384;
     Reciprocal {
         scale: curve(n) * 4,
-        shift: shift,
+        shift,
     }
 }

@@ -1,8 +1,9 @@
 // A file of the list: each line that is no comment is a case.
 use colour_cases::{derived, predicted};
 use luma_cases::{predictors, refs};
+use text::line::Line;
 
-#[derive(Clone, Copy)]
+#[derive(Clone, Copy, Default)]
 pub struct Tally {
     pub cases: u64,
     pub wrong: u64,
@@ -10,41 +11,32 @@ pub struct Tally {
 
 impl Tally {
     // One case more.
-    fn with(self, agrees: bool) -> Tally {
-        let cases = self.cases % 1000000 + 1;
-        let wrong = self.wrong % 1000000;
-        if agrees {
-            Tally { cases, wrong }
-        } else {
-            Tally {
-                cases,
-                wrong: wrong + 1,
-            }
+    fn count(&mut self, agrees: bool) {
+        self.cases = self.cases.saturating_add(1);
+        if !agrees {
+            self.wrong = self.wrong.saturating_add(1);
         }
     }
 }
 
-// Whether the case at a place agrees, whose letter stands before it.
-fn agrees(s: &[u8], at: usize, letter: u8) -> bool {
+// Whether a case agrees, whose letter stands before it.
+fn agrees(line: Line<'_>, letter: u8) -> bool {
     match letter {
-        b'R' => refs::agrees(s, at),
-        b'C' => derived::agrees(s, at),
-        b'B' => predicted::agrees(s, at),
-        b'J' => run_cases::agrees(s, at),
-        _ => predictors::agrees(s, at, letter),
+        b'R' => refs::agrees(line),
+        b'C' => derived::agrees(line),
+        b'B' => predicted::agrees(line),
+        b'J' => run_cases::agrees(line),
+        _ => predictors::agrees(line, letter),
     }
 }
 
 // The cases of a file, added to a tally.
-pub fn replay(s: &[u8], tally: Tally) -> Tally {
-    let mut sum = tally;
-    let mut at = 0;
-    while at < s.len() {
-        let letter = s[at];
-        if letter != b'#' {
-            sum = sum.with(agrees(s, at + 1, letter));
+pub fn replay(s: &[u8], tally: &mut Tally) {
+    let mut rest = s;
+    while let Some((letter, line)) = rest.split_first() {
+        if *letter != b'#' {
+            tally.count(agrees(Line(line), *letter));
         }
-        at = text::next_line(s, at);
+        rest = text::next_line(rest);
     }
-    sum
 }

@@ -1,9 +1,43 @@
-// Lists of the numbers of a text, for the programs. A list that has no room for so many gets none, and the place after them is the text's end.
+// Lists of the numbers of a text, for the programs.
 #![tactic(auto)]
 
 pub mod checked;
-pub mod fill;
-pub mod first;
 pub mod kind;
 pub mod room;
-pub mod same;
+
+// The first n entries of a list, or all where it has fewer.
+pub fn first<T>(list: &[T], n: usize) -> &[T] {
+    list.get(..n).unwrap_or(list)
+}
+
+// Fills a list with what the numbers at a text's front stand for, and hands back the text after them.
+pub fn fill<'a, T: Copy, F: Fn(u32) -> T>(s: &'a [u8], list: &mut [T], stands_for: F) -> &'a [u8]
+    requires { F.IsAlwaysCallable stands_for }
+{
+    let mut rest = s;
+    for x in list.iter_mut() {
+        let (n, tail) = text::number(rest);
+        *x = stands_for(n);
+        rest = tail;
+    }
+    rest
+}
+
+// The text after a list's entries, if they are what the numbers at its front stand for.
+pub fn same<'a, T: PartialEq + Drop, F: Fn(u32) -> T>(
+    s: &'a [u8],
+    list: &[T],
+    stands_for: F,
+) -> Option<&'a [u8]>
+    requires { F.IsAlwaysCallable stands_for }
+{
+    let mut rest = s;
+    for x in list {
+        let (n, tail) = text::number(rest);
+        if *x != stands_for(n) {
+            return None;
+        }
+        rest = tail;
+    }
+    Some(rest)
+}

@@ -9,8 +9,7 @@ mod unopened;
 
 use greymap::fault::Fault;
 use greymap::still;
-use greymap::still::FoundStill;
-use series::first;
+use greymap::still::{Still, StillFault};
 use std::env::{Env, FillError};
 use std::fs::{File, Files};
 use std::io::Read;
@@ -18,14 +17,19 @@ use std::str;
 use still_page::{fault, print};
 
 // The file's still, its samples in the planes' first places.
-fn load<R: Read>(file: &mut R, luma: &mut [f32], cb: &mut [f32], cr: &mut [f32]) -> FoundStill {
+fn load<R: Read>(
+    file: &mut R,
+    luma: &mut [f32],
+    cb: &mut [f32],
+    cr: &mut [f32],
+) -> Result<Still, StillFault> {
     let mut buffer = io::large_buffer();
     let n = file_bytes::read_full(file, &mut buffer);
     if n == 0 {
-        return FoundStill::Not(1, Fault::Empty);
+        return Err(Fault::Empty.of(1));
     }
     if n == 65536 {
-        return FoundStill::Not(1, Fault::TooLong);
+        return Err(Fault::TooLong.of(1));
     }
     still::read(&buffer[..n], luma, cb, cr)
 }
@@ -36,18 +40,18 @@ fn show_open<R: Read>(name: &[u8], file: &mut R) {
     let mut cb = room::picture();
     let mut cr = room::picture();
     match load(file, &mut luma, &mut cb, &mut cr) {
-        FoundStill::Grey(g) => show::show(name, first::samples(&luma, g.area()), g),
-        FoundStill::Colour(g) => {
+        Ok(Still::Grey(g)) => show::show(name, series::first(&luma, g.area()), g),
+        Ok(Still::Colour(g)) => {
             let n = g.area();
             colour_still::show(
                 name,
-                first::samples(&luma, n),
-                first::samples(&cb, n),
-                first::samples(&cr, n),
+                series::first(&luma, n),
+                series::first(&cb, n),
+                series::first(&cr, n),
                 g,
             )
         }
-        FoundStill::Not(number, fault) => fault::tell(name, number, fault),
+        Err(bad) => fault::tell(name, bad.number, bad.fault),
     }
 }
 

@@ -2,7 +2,6 @@
 use crate::room;
 use greymap::Greymap;
 use rebuild::Rebuilt;
-use series::first;
 use still_page::{map, rebuilding};
 
 fn tell_rebuilt(name: &[u8], g: Greymap, r: Rebuilt) {
@@ -30,7 +29,7 @@ pub fn show(name: &[u8], original: &[f32], g: Greymap) {
         &mut taken,
         &mut errors,
     );
-    let jobs = first::bytes(&taken, g.jobs());
+    let jobs = series::first(&taken, g.jobs());
     still_page::print_top(name, g, jobs, &errors);
     tell_runs(original, g, &plan, &differences);
     map::print_map(g, jobs);

@@ -1,36 +1,41 @@
-// The numbers of a line, which is one case of the list.
+// The numbers of a line, which is one case of the list. Each is found by how many stand before it.
 
-// The place after n numbers.
-pub fn past(s: &[u8], at: usize, n: usize) -> usize {
-    let mut i = at;
-    let mut c = 0;
-    while c < n {
-        let t = crate::number(s, i);
-        i = t.next;
-        c += 1;
+// The text from a line's first number on.
+#[derive(Clone, Copy)]
+pub struct Line<'a>(pub &'a [u8]);
+
+impl<'a> Line<'a> {
+    // The text after n numbers.
+    pub fn past(self, n: usize) -> &'a [u8] {
+        let mut rest = self.0;
+        for _ in 0..n {
+            rest = crate::number(rest).1;
+        }
+        rest
     }
-    i
+
+    pub fn number(self, n: usize) -> u32 {
+        crate::number(self.past(n)).0
+    }
+
+    pub fn signed(self, n: usize) -> i32 {
+        self.number(n).cast_signed()
+    }
+
+    pub fn word(self, n: usize) -> u16 {
+        (self.number(n) % 65536) as u16
+    }
+
+    pub fn size(self, n: usize) -> usize {
+        self.number(n) as usize
+    }
+
+    pub fn flag(self, n: usize) -> bool {
+        self.number(n) == 1
+    }
 }
 
-// The number after n others.
-pub fn number(s: &[u8], at: usize, n: usize) -> u32 {
-    let t = crate::number(s, past(s, at, n));
-    t.value
-}
-
-pub fn word(s: &[u8], at: usize, n: usize) -> u16 {
-    (number(s, at, n) % 65536) as u16
-}
-
-pub fn size(s: &[u8], at: usize, n: usize) -> usize {
-    number(s, at, n) as usize
-}
-
-pub fn flag(s: &[u8], at: usize, n: usize) -> bool {
-    number(s, at, n) == 1
-}
-
-// Whether a line ends at a place: not at the text's end.
-pub fn ends(s: &[u8], at: usize) -> bool {
-    if at < s.len() { s[at] == b'\n' } else { false }
+// Whether a line ends here: not at the text's end.
+pub fn ends(s: &[u8]) -> bool {
+    s.starts_with(b"\n")
 }

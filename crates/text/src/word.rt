@@ -1,123 +1,60 @@
 // Numbers of a text that others wrote: a word that is no number, or one that is too large, is told and never passed over.
-ghost use Rattle.std.specs.Prelude.{◌≤◌};
+ghost use Rattle.std.specs.Prelude.{◌≤◌, length, IfOk};
 
-use crate::next_line;
+use crate::{next_line, split_before};
 
-// What stands at a place.
-#[derive(Clone, Copy)]
-pub enum Found {
-    Number,
+// Why no number stands at the front.
+#[derive(Clone, Copy, Debug, PartialEq, Eq)]
+pub enum WordFault {
     NoNumber,
     TooLarge,
     Nothing,
 }
 
-// The number, where one was found, and the place after it.
-#[derive(Clone, Copy)]
-pub struct Word {
-    pub found: Found,
-    pub value: u32,
-    pub next: usize,
-}
-
 // Space, tab, line feed, vertical tab, form feed, carriage return.
-pub fn is_blank(b: u8) -> bool {
-    if b == b' ' {
-        return true;
-    }
-    if b < 9 {
-        return false;
-    }
-    b <= 13
+fn is_blank(b: u8) -> bool {
+    matches!(b, b' ' | 9..=13)
 }
 
-// The first place from `at` on where no blank stands.
-pub fn past_blanks(s: &[u8], at: usize) -> usize {
-    let mut i = at;
-    while i < s.len() {
-        if !is_blank(s[i]) {
-            return i;
-        }
-        i += 1;
-    }
-    i
+// The text from its first byte on that is no blank.
+pub fn past_blanks(s: &[u8]) -> &[u8]
+    ensures { length result.now ≤ length s.now }
+{
+    split_before(s, |b| !is_blank(b)).1
 }
 
-// The first place from `at` on where neither a blank nor a comment stands; a comment goes from # to the line's end.
-pub fn past_comments(s: &[u8], at: usize) -> usize {
-    let mut i = at;
-    while i < s.len() {
-        if s[i] == b'#' {
-            i = next_line(s, i);
-        } else if is_blank(s[i]) {
-            i += 1;
-        } else {
-            return i;
-        }
+// The text from its first byte on that belongs to neither a blank nor a comment; a comment goes from # to the line's end.
+pub fn past_comments(s: &[u8]) -> &[u8] {
+    let mut rest = past_blanks(s);
+    while rest.starts_with(b"#") {
+        rest = past_blanks(next_line(rest));
     }
-    i
+    rest
 }
 
 // Whether a word ends before a byte.
 pub fn is_end(b: u8) -> bool {
-    if b == b'#' {
-        return true;
-    }
-    is_blank(b)
+    b == b'#' || is_blank(b)
 }
 
-// A digit's value, and 10 for any other byte.
-pub fn digit(b: u8) -> u64
-    ensures { result ≤ 10 }
+// The word at the front as a number that is at most `most`, and the text after it.
+pub fn number(s: &[u8], most: u32) -> Result<(u32, &[u8]), WordFault>
+    ensures { IfOk result (λ r. r.0 ≤ most) }
 {
-    if b < b'0' {
-        return 10;
+    if s.is_empty() {
+        return Err(WordFault::Nothing);
     }
-    if b'9' < b {
-        return 10;
+    let (word, rest) = split_before(s, is_end);
+    if word.is_empty() {
+        return Err(WordFault::NoNumber);
     }
-    (b - b'0') as u64
-}
-
-fn no_number(found: Found, next: usize) -> Word
-    ensures { result.value ≤ 0 }
-{
-    Word {
-        found,
-        value: 0,
-        next,
-    }
-}
-
-// The word at a place as a number that is at most `most`.
-pub fn number(s: &[u8], at: usize, most: u32) -> Word
-    ensures { result.value ≤ most }
-{
-    if s.len() <= at {
-        return no_number(Found::Nothing, at);
-    }
-    let mut i = at;
-    let mut n: u64 = 0;
-    while i < s.len() {
-        if is_end(s[i]) {
-            break;
+    let mut n = 0u64;
+    for b in word {
+        let d = char::from(*b).to_digit(10).ok_or(WordFault::NoNumber)?;
+        n = n * 10 + u64::from(d);
+        if n > u64::from(most) {
+            return Err(WordFault::TooLarge);
         }
-        let d = digit(s[i]);
-        if 9 < d {
-            return no_number(Found::NoNumber, i);
-        }
-        n = n * 10 + d;
-        if n > most as u64 {
-            return no_number(Found::TooLarge, i);
-        }
-        i += 1;
     }
-    if i == at {
-        return no_number(Found::NoNumber, i);
-    }
-    Word {
-        found: Found::Number,
-        value: n as u32,
-        next: i,
-    }
+    Ok((n as u32, rest))
 }

@@ -5,7 +5,6 @@
 mod put;
 
 use greymap::Greymap;
-use series::first;
 use tower_blocks::{room, row};
 
 // The jobs of a plane, and their differences, as far as there is room. Each is run as it is chosen: the next ones read what it wrote.
@@ -56,7 +55,7 @@ pub fn make(
     let mut p1 = room::unwritten();
     let mut p2 = room::unwritten();
     let from = 0;
-    let to = first::within(g.area(), 4096);
+    let to = g.area().min(4096);
     put_planes(
         &mut p0[from..to],
         &mut p1[from..to],

@@ -4,7 +4,6 @@ ghost use Rattle.std.specs.Prelude.{◌≤◌};
 use crate::room;
 use greymap::Greymap;
 use rebuild::count;
-use series::first;
 
 // The run's answer, how many jobs it did, and how many samples are other than the first run's.
 #[derive(Clone, Copy)]
@@ -22,7 +21,7 @@ fn others(a: &[f32], b: &[f32]) -> usize
     if a.len() < equal {
         return 0;
     }
-    first::within(a.len() - equal, 4096)
+    (a.len() - equal).min(4096)
 }
 
 fn on_planes(
@@ -40,7 +39,7 @@ fn on_planes(
     let answer = crate::in_waves(p0, p1, p2, g, plan, differences, &mut answers);
     Again {
         answer,
-        done: count::count_done(first::words(&answers, tower_blocks::jobs(g))),
+        done: count::count_done(series::first(&answers, tower_blocks::jobs(g))),
         others: others(q0, p0) + others(q1, p1) + others(q2, p2),
     }
 }
@@ -58,7 +57,7 @@ pub fn in_waves(
     let mut p1 = tower_blocks::room::unwritten();
     let mut p2 = tower_blocks::room::unwritten();
     let from = 0;
-    let to = first::within(g.area(), 4096);
+    let to = g.area().min(4096);
     on_planes(
         &mut p0[from..to],
         &mut p1[from..to],

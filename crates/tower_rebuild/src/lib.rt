@@ -6,7 +6,6 @@ pub mod room;
 
 use greymap::Greymap;
 use picture_blocks::order;
-use series::first;
 
 // The run's answer's number, with the first entries of the answers; where a list is too short the run itself refuses.
 fn run(
@@ -20,7 +19,7 @@ fn run(
     answers: &mut [u16],
 ) -> u32 {
     let from = 0;
-    let to = first::within(order.len(), answers.len());
+    let to = order.len().min(answers.len());
     tower_plan::run(
         p0,
         p1,
@@ -47,7 +46,7 @@ pub fn in_planes(
 ) -> u32 {
     let mut order = room::order();
     order::in_rows(&mut order);
-    let jobs = first::words(&order, tower_blocks::jobs(g));
+    let jobs = series::first(&order, tower_blocks::jobs(g));
     run(p0, p1, p2, g, plan, jobs, differences, answers)
 }
 
@@ -63,6 +62,6 @@ fn in_waves(
 ) -> u32 {
     let mut order = room::order();
     tower_blocks::waves::in_waves(g, &mut order);
-    let jobs = first::words(&order, tower_blocks::jobs(g));
+    let jobs = series::first(&order, tower_blocks::jobs(g));
     run(p0, p1, p2, g, plan, jobs, differences, answers)
 }

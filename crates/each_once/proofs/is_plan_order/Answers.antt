@@ -1,26 +1,16 @@
--- `is_plan_order` meets its contract: the first k entries stand at their own places. Assumes nothing.
-use mathlib.Core.Path.{sym}
-use native.Mathlib.Omega.{arith}
+-- `is_plan_order` meets its contract. Assumes nothing.
+use mathlib.Core.Path.{◌∙◌}
 use borrow.Author.Rules.{rules}
-use borrow.Author.Count.{below_more}
-use Rattle.reorder.proofs.Test.{fails}
-use Rattle.each_once.proofs.InPlace.{own-decides}
+use borrow.Author.Tests.{tests}
+use lib.Dec.{eqb}
+use Rattle.std.proofs.lemmas.Iterator.{YieldsList-from_slice}
+use Rattle.std.proofs.lemmas.Iterator.Consumers.{YieldsList-from_enumerate, YieldsList-at}
+use Rattle.std.proofs.lemmas.Iterator.Search.{all_from_yields_List}
+use Rattle.each_once.proofs.InPlace.{own_listed}
 use Rattle.each_once.proofs.is_plan_order.Goals as goal
 
-pub loop-k-init : goal.loop-k-init
-loop-k-init c = (search rules, λ a h. absurd (omega arith))
-
-pub bounds-order-k : goal.bounds-order-k
-bounds-order-k c = omega arith
-
-pub returns-then-order-k : goal.returns-then-order-k
-returns-then-order-k c = sym ((fails _ _ (own-decides _)).1 (λ h. c.if-order-k.true (h c.loop-k.k (omega arith))))
-
-pub loop-k-smaller : goal.loop-k-smaller
-loop-k-smaller c = omega arith
-
-pub loop-k-preserved : goal.loop-k-preserved
-loop-k-preserved c = (omega arith, below_more _ _ c.loop-k.invariant.1 c.if-order-k.false)
-
 pub returns : goal.returns
-returns c = sym ((own-decides _).1 (λ a h. c.loop-k.invariant.1 a (omega arith)))
+returns c =
+    all_from_yields_List (λ p. eqb p.1 p.0) _ _ _ c.all.ensures.ran
+    (YieldsList-from_enumerate (YieldsList-at c.enumerate.ensures.source (YieldsList-from_slice c.args.order.now cc)) c.enumerate.ensures.count) (λ x b q k. search (rules, tests))
+    ∙ own_listed c.args.order.now

@@ -1,10 +1,7 @@
 -- `fill` meets its contract. The invariant: the first z entries of each half are there. Assumes nothing.
-use Prim.Native.Nat.{◌-◌, ◌≤◌}
+use Prim.Native.Nat.{◌≤◌}
 use Rattle.product_table.specs.Wide.{WideTo}
 use Rattle.product_table.proofs.fill.Given as goal
 
 abbrev pub invariant-loop-z : goal.invariant-loop-z
 invariant-loop-z l = (l.z ≤ 12) × WideTo l.z l.a l.table
-
-abbrev pub decreases-loop-z : goal.decreases-loop-z
-decreases-loop-z l = 12 - l.z

@@ -1,5 +1,5 @@
 -- `division_scale_shift` meets its contract. Assumes nothing.
-use Rattle.std.proofs.Common.{◌≡◌, ℕ, ◌%◌, min, max, ℤ, pos, ◌*ℤ◌, sym, ap, ◌∙◌, subst, w32, SFits, to_z, of_z}
+use Rattle.std.proofs.Common.{◌≡◌, ℕ, ◌%◌, min, max, ℤ, pos, ◌*ℤ◌, sym, ap, ◌∙◌, subst, arith, w32, SFits, to_z, of_z}
 use borrow.Author.Rules.{sfits_of}
 use Rattle.signed.proofs.Bound.{back}
 use Rattle.reciprocal.specs.Division.{curve, moved, fraction, scale_of}
@@ -12,6 +12,9 @@ use Rattle.reciprocal.proofs.division_scale_shift.Tie as tie
 abbrev At-Start : Type 0
 At-Start = lts.Start tie.the-claims reads.Pre reads.Post
 
+turn : (n : ℕ) → min n 32767 ≡ min 32767 n
+turn n = omega arith
+
 -- four times what `curve` gave
 module _ (c : goal.After-curve) where
   abbrev s : At-Start
@@ -23,7 +26,7 @@ module _ (c : goal.After-curve) where
       ap (λ (z : ℤ). z *ℤ pos 4)
       (back w32 {z = c.curve.result} (sfits_of c.curve.type_inv) ∙ c.curve.ensures ∙
       ap (λ (n : ℕ). curve (n % 16384))
-      (c.clip-n.ensures ∙
+      (c.clamp-n.ensures ∙ ap (max 1) (turn c.moved.result) ∙
       ap (λ (n : ℕ). max 1 (min 32767 n))
       (c.moved.ensures ∙ ap (moved s.args.d) c.ilog2-shift.ensures)))
 

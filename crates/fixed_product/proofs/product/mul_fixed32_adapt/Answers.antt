@@ -19,7 +19,7 @@ abbrev At-Start : Type 0
 At-Start = lts.Start tie.the-claims reads.Pre reads.Post
 
 -- what is over, and the product of the shifted factors as it is read back
-module _ (c : goal.After-monus-need) where
+module _ (c : goal.After-saturating_sub-need) where
   abbrev s : At-Start
   s = c.before.before.before
 
@@ -29,10 +29,10 @@ module _ (c : goal.After-monus-need) where
   abbrev b : ℤ
   b = s.args.b
 
-  need : c.monus-need.result ≡ over a b
+  need : c.saturating_sub-need.result ≡ over a b
   unfolding over
   need =
-      c.monus-need.ensures ∙
+      c.saturating_sub-need.ensures ∙
       ap₂ (λ (x y : ℕ). (x + y) - 29)
       (simp (back w32 s.ranges.a) at c.digits.ensures.0)
       (simp (back w32 s.ranges.b) at c.digits-2.ensures.0)
@@ -66,7 +66,7 @@ returns c =
     let s = s x in
     back w32 {z = c.rounded.result} (sfits_of c.rounded.type_inv) ∙
     (simp (
-      c.monus.ensures,
+      c.saturating_sub.ensures,
       need x,
       back w32 s.ranges.a,
       back w32 s.ranges.b,

@@ -1,10 +1,6 @@
--- `replay` meets its contract: it ends, since each line ends further on. Assumes nothing.
-use Prim.Native.Nat.{◌-◌}
-use lib.ListN.{length}
+-- `replay` meets its contract: it ends, since each line leaves less. Assumes nothing.
+use Rattle.std.proofs.Common.{length}
 use Rattle.replay.proofs.list.replay.Given as goal
 
-abbrev pub invariant-loop-at : goal.invariant-loop-at
-invariant-loop-at l = Unit
-
-abbrev pub decreases-loop-at : goal.decreases-loop-at
-decreases-loop-at l = length l.s - l.at
+abbrev pub decreases-loop-letter : goal.decreases-loop-letter
+decreases-loop-letter l = length l.rest

@@ -1,10 +1,6 @@
--- `number` meets its contract: it ends, reads inside the text, and no sum wraps, since what is read so far is at most `most`. Assumes nothing.
-use Prim.Native.Nat.{◌≤◌, ◌-◌}
-use lib.ListN.{length}
+-- `number` meets its contract: no sum wraps, since what is read so far is at most `most`. Assumes nothing.
+use Rattle.std.proofs.Common.{◌≤◌}
 use Rattle.text.proofs.word.number.Given as goal
 
-abbrev pub invariant-loop-i : goal.invariant-loop-i
-invariant-loop-i l = l.n ≤ l.most
-
-abbrev pub decreases-loop-i : goal.decreases-loop-i
-decreases-loop-i l = length l.s - l.i
+abbrev pub invariant-loop-b : goal.invariant-loop-b
+invariant-loop-b l = l.n ≤ l.most
