@@ -1,6 +1,7 @@
 // A case of `derive_params` (document 01, Colour parameters): its lists as long as the case says, its answer's number, and what the list of parameters
 // holds afterwards.
 use crate::window;
+use numbers::answer;
 use series::room;
 use text::line;
 use text::line::Line;
@@ -23,7 +24,7 @@ fn past_case(line: Line<'_>) -> Option<&[u8]> {
         line.number(0),
         params,
     );
-    if answer.number() != line.number(9) {
+    if answer::number(answer) != line.number(9) {
         return None;
     }
     series::same(rest, params, u32::cast_signed)

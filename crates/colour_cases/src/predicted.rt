@@ -1,6 +1,7 @@
 // A case of `predict_block` (document 01, Colour parameters): its lists as long as the case says, its answer's number, and what the output holds
 // afterwards.
 use crate::window;
+use numbers::answer;
 use series::room;
 use text::line;
 use text::line::Line;
@@ -25,7 +26,7 @@ fn past_case(line: Line<'_>) -> Option<&[u8]> {
         line.signed(12),
         out,
     );
-    if answer.number() != line.number(15) {
+    if answer::number(answer) != line.number(15) {
         return None;
     }
     series::same(rest, out, u32::cast_signed)

@@ -1,6 +1,6 @@
 // What came of the planes rebuilt from nothing: a line for each order, and one for each job that was refused.
 use greymap::Greymap;
-use numbers::answer::Answer;
+use numbers::answer;
 use still_page::{print, rebuilding};
 
 pub fn print_heading() {
@@ -64,7 +64,7 @@ fn wide(answer: u16) -> u32 {
 pub fn print_refused(plan: &[u16], answers: &[u16]) {
     let mut i = 0;
     while i < answers.len() {
-        if wide(answers[i]) != Answer::Done.number() {
+        if wide(answers[i]) != answer::DONE {
             print_job(plan, i, answers[i]);
         }
         i += 1;

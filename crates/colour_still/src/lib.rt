@@ -5,7 +5,7 @@ mod room;
 
 use colour_page::{map, runs, table};
 use greymap::Greymap;
-use numbers::answer::Answer;
+use numbers::answer;
 use rebuild::count;
 use tower_rebuild::again;
 
@@ -22,7 +22,7 @@ fn tell_first(
     let answer = tower_rebuild::in_planes(p0, p1, p2, g, plan, differences, &mut answers);
     let jobs = series::first(&answers, tower_blocks::jobs(g));
     runs::print_first(g, answer, count::count_done(jobs));
-    if answer == Answer::Done.number() {
+    if answer == answer::DONE {
         runs::print_refused(plan, jobs);
     }
 }

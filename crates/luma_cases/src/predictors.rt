@@ -1,5 +1,6 @@
 // A case of a direct predictor call: its lists as long as the case says, its answer's number, and what the output holds afterwards.
-use numbers::answer::Answer;
+use numbers::answer;
+use numbers::answer::{Answer, Refusal};
 use series::{kind, room};
 use text::line;
 use text::line::Line;
@@ -33,7 +34,7 @@ fn plain(line: Line<'_>) -> Case<'_> {
         above: edge,
         left: edge,
         out: room::area(b, b),
-        due: Answer::Done.number(),
+        due: answer::DONE,
         lists: line.past(3),
     }
 }
@@ -61,7 +62,7 @@ fn call(line: Line<'_>, letter: u8, above: &[i32], left: &[i32], out: &mut [f32]
         b'S' => smooth::smooth(b, d, above, left, corner, out),
         b'V' => smooth::smooth_v(b, d, above, left, corner, out),
         b'H' => smooth::smooth_h(b, d, above, left, corner, out),
-        _ => Answer::BadMode,
+        _ => Err(Refusal::BadMode),
     }
 }
 
@@ -80,7 +81,7 @@ fn past_case(line: Line<'_>, letter: u8) -> Option<&[u8]> {
     let out = out.get_mut(..case.out)?;
     let rest = series::fill(case.lists, above, u32::cast_signed);
     let rest = series::fill(rest, left, u32::cast_signed);
-    if call(line, letter, above, left, out).number() != case.due {
+    if answer::number(call(line, letter, above, left, out)) != case.due {
         return None;
     }
     series::same(rest, out, kind::sample)

@@ -38,7 +38,7 @@ fn past_case(line: Line<'_>) -> Option<&[u8]> {
         &mut left,
         &mut corner,
     );
-    if !answer.is_done() {
+    if answer.is_err() {
         return None;
     }
     let rest = series::same(rest, &above, u32::cast_signed)?;

@@ -69,12 +69,15 @@ impl Refusal {
     }
 }
 
-// The answer's number: 0 is done.
+// The number of done.
+pub const DONE: u32 = 0;
+
+// The answer's number.
 pub fn number(answer: Answer) -> u32
     ensures { result ≡ answer_number answer }
 {
     match answer {
-        Ok(()) => 0,
+        Ok(()) => DONE,
         Err(refusal) => refusal.number(),
     }
 }

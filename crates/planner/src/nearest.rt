@@ -22,7 +22,7 @@ pub fn nearest(
     let mut number = 0;
     let mut error = 4294967295;
     for k in 0..Candidate::COUNT {
-        if predict::predict(Candidate::of(k), d, flags, above, left, corner, &mut out).is_done() {
+        if predict::predict(Candidate::of(k), d, flags, above, left, corner, &mut out).is_ok() {
             let e = distance::error_of(&out, block);
             if e < error {
                 number = k;

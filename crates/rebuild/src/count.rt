@@ -1,7 +1,7 @@
 // How many jobs of a run are done, and how many samples of two pictures are equal.
 ghost use Rattle.std.specs.Prelude.{◌≤◌};
 
-use numbers::answer::Answer;
+use numbers::answer;
 
 fn wide(answer: u16) -> u32 {
     answer as u32
@@ -12,7 +12,7 @@ fn is_done(answers: &[u16], i: usize) -> usize
     ensures { result ≤ 1 }
 {
     if i < answers.len() {
-        if wide(answers[i]) == Answer::Done.number() {
+        if wide(answers[i]) == answer::DONE {
             return 1;
         }
     }

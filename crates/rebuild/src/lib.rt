@@ -5,6 +5,7 @@ pub mod count;
 mod room;
 
 use greymap::Greymap;
+use numbers::answer;
 use picture_blocks::order;
 
 // The run's answer, how many jobs it did, and how many samples equal the original's.
@@ -26,7 +27,7 @@ fn run(
 ) -> u32 {
     let from = 0;
     let to = order.len().min(answers.len());
-    plan::run(
+    answer::number(plan::run(
         plane,
         g.width(),
         g.height(),
@@ -34,8 +35,7 @@ fn run(
         order,
         differences,
         &mut answers[from..to],
-    )
-    .number()
+    ))
 }
 
 // The run over a plane.

@@ -2,6 +2,7 @@
 // and what the answers and the plane hold afterwards.
 #![tactic(auto)]
 
+use numbers::answer;
 use series::{kind, room};
 use text::line;
 use text::line::Line;
@@ -31,7 +32,7 @@ fn past_case(line: Line<'_>) -> Option<&[u8]> {
         differences,
         answers,
     );
-    if answer.number() != line.number(7) {
+    if answer::number(answer) != line.number(7) {
         return None;
     }
     let rest = series::same(rest, answers, kind::word)?;

@@ -1,7 +1,7 @@
 // What came of the picture rebuilt from nothing: a line for each order.
 use crate::print;
 use greymap::Greymap;
-use numbers::answer::Answer;
+use numbers::answer;
 
 pub fn print_heading() {
     print::say(b"\n     rebuilt from nothing     jobs done   samples equal\n");
@@ -16,7 +16,7 @@ pub fn print_part(n: usize, blanks: &[u8], all: usize, all_blanks: &[u8]) {
 
 // A refusal of the whole run, if it is one.
 pub fn print_refusal(answer: u32) {
-    if answer != Answer::Done.number() {
+    if answer != answer::DONE {
         print::say(b"  refused with ");
         print::number(answer as usize);
     }

@@ -1,6 +1,6 @@
 // A job that is tried: run by itself over the planes, as they are rebuilt so far.
 use greymap::Greymap;
-use numbers::answer::Answer;
+use numbers::answer;
 use picture_blocks::block;
 
 fn wide(answer: u16) -> u32 {
@@ -29,10 +29,10 @@ pub fn run(
         differences,
         &mut answers,
     );
-    if !answer.is_done() {
+    if answer.is_err() {
         return false;
     }
-    wide(answers[0]) == Answer::Done.number()
+    wide(answers[0]) == answer::DONE
 }
 
 // A plane's block.

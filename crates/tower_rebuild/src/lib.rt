@@ -5,6 +5,7 @@ pub mod again;
 pub mod room;
 
 use greymap::Greymap;
+use numbers::answer;
 use picture_blocks::order;
 
 // The run's answer's number, with the first entries of the answers; where a list is too short the run itself refuses.
@@ -20,7 +21,7 @@ fn run(
 ) -> u32 {
     let from = 0;
     let to = order.len().min(answers.len());
-    tower_plan::run(
+    answer::number(tower_plan::run(
         p0,
         p1,
         p2,
@@ -30,8 +31,7 @@ fn run(
         order,
         differences,
         &mut answers[from..to],
-    )
-    .number()
+    ))
 }
 
 // The planes rebuilt plane by plane, in the plan's own order.
