@@ -2,7 +2,7 @@
 // leaves are those of the plan's own order, whichever accepted order it was given.
 #![tactic(auto)]
 
-mod rows;
+mod walk;
 
 ghost use Rattle.plan.specs.Run.{RanOver};
 
@@ -29,6 +29,6 @@ pub fn run(
         differences.len(),
         answers.len(),
     )?;
-    rows::run_order(plane, width, height, plan, order, differences, answers);
+    walk::run_order(plane, width, height, plan, order, differences, answers);
     Ok(())
 }

@@ -2,7 +2,7 @@
 // the planes and the answers that it leaves are those of the plan's own order, whichever accepted order it was given.
 #![tactic(auto)]
 
-mod rows;
+mod walk;
 
 ghost use Rattle.tower_work.specs.Granted.{three};
 ghost use Rattle.tower_plan.specs.Run.{TowerRanOver};
@@ -34,6 +34,6 @@ pub fn run(
         differences.len(),
         answers.len(),
     )?;
-    rows::run_order(p0, p1, p2, width, height, plan, order, differences, answers);
+    walk::run_order(p0, p1, p2, width, height, plan, order, differences, answers);
     Ok(())
 }

@@ -5,7 +5,7 @@ use mathlib.Core.Path.{◌≡◌}
 use lib.ListN.{length, take}
 use Rattle.tower_work.specs.Granted.{three}
 use Rattle.tower_plan.specs.Run.{tower_memory, tower_in_order}
-use Rattle.tower_plan.proofs.rows.run_rows.Given as goal
+use Rattle.tower_plan.proofs.walk.run_rows.Given as goal
 
 abbrev pub invariant-loop-entry : goal.invariant-loop-entry
 invariant-loop-entry l =

@@ -8,7 +8,7 @@ use lib.ListN.{length, get_or, take, drop, length-set}
 use Rattle.job_work.proofs.Laws.{keeps}
 use Rattle.plan.proofs.Steps.{none_done, one_more}
 use Rattle.job.specs.Row.{row_at}
-use Rattle.plan.proofs.rows.run_rows.Goals as goal
+use Rattle.plan.proofs.walk.run_rows.Goals as goal
 
 row_is : (plan : List ℕ) (i : ℕ) → take (16 * i + 16 - 16 * i) (drop (16 * i) plan) ≡ row_at plan i
 row_is plan i = let e : 16 * i + 16 - 16 * i ≡ 16 = omega arith in ap (λ n. take n (drop (16 * i) plan)) e

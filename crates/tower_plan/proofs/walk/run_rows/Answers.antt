@@ -14,7 +14,7 @@ use Rattle.tower_job.specs.Row.{tower_row}
 use Rattle.tower_work.specs.Granted.{three, ArePlanes}
 use Rattle.tower_work.proofs.Frame.{tower-fits}
 use Rattle.tower_plan.proofs.Steps.{none_done, one_more}
-use Rattle.tower_plan.proofs.rows.run_rows.Goals as goal
+use Rattle.tower_plan.proofs.walk.run_rows.Goals as goal
 
 -- planes of one size, before and after
 module _ (W H : ℕ) (p0 p1 p2 : List Float) (planes : ArePlanes W H p0 p1 p2) where

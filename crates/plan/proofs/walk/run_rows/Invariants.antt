@@ -2,7 +2,7 @@
 use mathlib.Core.Path.{◌≡◌}
 use lib.ListN.{length, take}
 use Rattle.plan.specs.Run.{memory, in_order}
-use Rattle.plan.proofs.rows.run_rows.Given as goal
+use Rattle.plan.proofs.walk.run_rows.Given as goal
 
 abbrev pub invariant-loop-entry : goal.invariant-loop-entry
 invariant-loop-entry l =
