@@ -16,11 +16,7 @@ fn copy_row(edge: &[i32], row: &mut [f32])
     requires { (length row.old ≤ length edge.now) × Edge 4095 (length row.old) edge.now }
     ensures { row.new ≡ tab (length row.old) (λ c. sample (get_or edge.now c (pos 0))) }
 {
-    let mut c = 0;
-    while c < row.len() {
-        row[c] = to_sample(edge[c]);
-        c += 1;
-    }
+    rows::fill_long(row, |c| to_sample(edge[c]));
 }
 
 // A row of one entry.
@@ -28,12 +24,7 @@ fn fill_row(v: i32, row: &mut [f32])
     requires { nat_abs v ≤ 4095 }
     ensures { row.new ≡ tab (length row.old) (λ c. sample v) }
 {
-    let x = to_sample(v);
-    let mut c = 0;
-    while c < row.len() {
-        row[c] = x;
-        c += 1;
-    }
+    rows::repeat(row, to_sample(v));
 }
 
 // h rows of w samples, each the edge above.
@@ -41,13 +32,9 @@ pub fn copy_down(w: usize, h: usize, above: &[i32], out: &mut [f32])
     requires { (w ≤ length above.now) × Edge 4095 w above.now × (h * w ≤ length out.old) }
     ensures { out.new ≡ block w h (λ r c. get_or above.now c (pos 0)) out.old }
 {
-    let mut o = 0;
-    let mut r = 0;
-    while r < h {
-        let e = o + w;
-        copy_row(above, &mut out[o..e]);
-        o = e;
-        r += 1;
+    for r in 0..h {
+        let o = r * w;
+        copy_row(above, &mut out[o..o + w]);
     }
 }
 
@@ -56,12 +43,8 @@ pub fn copy_across(w: usize, h: usize, left: &[i32], out: &mut [f32])
     requires { (h ≤ length left.now) × Edge 4095 h left.now × (h * w ≤ length out.old) }
     ensures { out.new ≡ block w h (λ r c. get_or left.now r (pos 0)) out.old }
 {
-    let mut o = 0;
-    let mut r = 0;
-    while r < h {
-        let e = o + w;
-        fill_row(left[r], &mut out[o..e]);
-        o = e;
-        r += 1;
+    for r in 0..h {
+        let o = r * w;
+        fill_row(left[r], &mut out[o..o + w]);
     }
 }

@@ -11,12 +11,8 @@ pub fn paeth_into(bs: usize, above: &[i32], left: &[i32], corner: i32, out: &mut
     requires { Given bs 4095 above.now left.now corner (length out.old) }
     ensures { out.new ≡ block bs bs (paeth_at bs above.now left.now corner) out.old }
 {
-    let mut o = 0;
-    let mut r = 0;
-    while r < bs {
-        let e = o + bs;
-        row::paeth_row(above, left[r], corner, &mut out[o..e]);
-        o = e;
-        r += 1;
+    for r in 0..bs {
+        let o = r * bs;
+        row::paeth_row(above, left[r], corner, &mut out[o..o + bs]);
     }
 }

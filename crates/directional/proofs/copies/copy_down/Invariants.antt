@@ -1,5 +1,5 @@
--- `copy_down` meets its contract. The invariant: the first r rows are written, and o is r w. Assumes nothing.
-use Prim.Native.Nat.{ℕ, ◌≤◌, ◌-◌, ◌*◌}
+-- `copy_down` meets its contract. The invariant: the first r rows are written. Assumes nothing.
+use Prim.Native.Nat.{ℕ, ◌*◌}
 use mathlib.Core.Path.{◌≡◌}
 use mathlib.Core.List.{List}
 use lib.ListN.{length, get_or}
@@ -13,7 +13,4 @@ abbrev pub at : List ℤ → ℕ → ℕ → Float
 at above r c = sample (get_or above c (pos 0))
 
 abbrev pub invariant-loop-r : goal.invariant-loop-r
-invariant-loop-r l = (l.r ≤ l.h) × (l.o ≡ l.r * l.w) × (length l.out ≡ length l.initial.out) × (l.out ≡ filled l.o (rows l.w (at l.above)) l.initial.out)
-
-abbrev pub decreases-loop-r : goal.decreases-loop-r
-decreases-loop-r l = l.h - l.r
+invariant-loop-r l = (length l.out ≡ length l.initial.out) × (l.out ≡ filled (l.r * l.w) (rows l.w (at l.above)) l.initial.out)

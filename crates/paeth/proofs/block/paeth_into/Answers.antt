@@ -1,5 +1,5 @@
--- `paeth_into` meets its contract. The invariant: the first r rows are written, and o is r bs. Assumes nothing.
-use Prim.Native.Nat.{◌≤◌, ◌+◌}
+-- `paeth_into` meets its contract. Assumes nothing.
+use Prim.Native.Nat.{◌≤◌, ◌+◌, ◌*◌}
 use native.Mathlib.Omega.{arith}
 use mathlib.Core.Path.{◌≡◌, refl, sym, ◌∙◌, ap}
 use lib.ListN.{length, get_or}
@@ -7,9 +7,10 @@ use lib.IntN.{ℤ, pos, nat_abs}
 use mir.Syntax.{w32}
 use mir.Val.{to_z, of_z}
 use mir.Facts.{to_z-of_z}
-use Rattle.lists.specs.Block.{sample, block}
+use Rattle.lists.specs.Block.{sample, rows, block}
 use Rattle.signed.proofs.Bound.{back-abs}
 use Rattle.signed.proofs.Range.{inside-abs}
+use Rattle.lists.specs.Fill.{filled}
 use Rattle.lists.proofs.Fill.{filled_none}
 use Rattle.lists.proofs.Block.{filled_row, part_length}
 use Rattle.lists.proofs.RowLoop.{row_room, all-rows}
@@ -24,14 +25,15 @@ module _ {z : ℤ} (h : nat_abs z ≤ 4095) where
   z-back = back-abs w32 z (omega (arith, h))
 
 pub loop-r-init : goal.loop-r-init
-loop-r-init c = (omega arith, omega arith, refl, sym (filled_none _ _))
+loop-r-init c = let none : 0 * c.args.bs ≡ 0 = omega arith in (refl, sym (rw none (filled_none _ _)))
 
 pub paeth_row-requires : goal.paeth_row-requires
 paeth_row-requires c =
     let k = c.loop-r in
     let p = c.requires in
-    let room : k.o + c.args.bs ≤ length k.out = row_room c.args.bs k.invariant.1 c.loop-r-test.true p.out-long k.invariant.2 in
-    let n = part_length k.o c.args.bs k.out room in
+    let o = k.r * c.args.bs in
+    let room : o + c.args.bs ≤ length k.out = row_room c.args.bs refl c.loop-r-test.true p.out-long k.invariant.0 in
+    let n = part_length o c.args.bs k.out room in
     let l = get_or c.args.left.now k.r (pos 0) in
     let small = inside-abs 4095 l (p.left_in k.r (omega arith)) in
     simp (to_z-of_z, c.ranges.corner, z-back {z = l} small, n)
@@ -42,16 +44,17 @@ loop-r-preserved c =
     let k = c.loop-r in
     let p = c.requires in
     let a = c.args in
-    let room : k.o + a.bs ≤ length k.out = row_room a.bs k.invariant.1 c.loop-r-test.true p.out-long k.invariant.2 in
+    let o = k.r * a.bs in
+    let room : o + a.bs ≤ length k.out = row_room a.bs refl c.loop-r-test.true p.out-long k.invariant.0 in
     let l = get_or a.left.now k.r (pos 0) in
     let small = inside-abs 4095 l (p.left_in k.r (omega arith)) in
-    let K = to_z w32 (of_z w32 a.corner) in (
+    let K = to_z w32 (of_z w32 a.corner) in
+    let next : o + a.bs ≡ (k.r + 1) * a.bs = omega arith in (
       omega arith,
-      omega arith,
-      omega arith,
-      filled_row a.bs k.r k.o (at a.bs a.above.now a.left.now K) _ _ _ _
-          k.invariant.1 room k.invariant.3 c.paeth_row.ensures
-          (λ j h. ap (λ z. sample (chosen z (get_or a.above.now j (pos 0)) K)) (z-back small) ∙ ap sample (sym (paeth-is l (get_or a.above.now j (pos 0)) K))),
+      filled_row a.bs k.r o (at a.bs a.above.now a.left.now K) _ _ _ _
+          refl room k.invariant.1 c.paeth_row.ensures
+          (λ j h. ap (λ z. sample (chosen z (get_or a.above.now j (pos 0)) K)) (z-back small) ∙ ap sample (sym (paeth-is l (get_or a.above.now j (pos 0)) K)))
+          ∙ ap (λ n. filled n (rows a.bs (at a.bs a.above.now a.left.now K)) a.out.now) next,
     )
 
 pub returns : goal.returns
@@ -60,5 +63,5 @@ returns c =
     let a = c.args in
     let B = a.bs in
     let p = paeth_at B a.above.now a.left.now in
-    all-rows B B k.r k.o (p (to_z w32 (of_z w32 a.corner))) _ _ k.invariant.1 k.invariant.0 (omega arith) k.invariant.3
+    all-rows B B k.r _ (p (to_z w32 (of_z w32 a.corner))) _ _ refl k.auto.r-end c.loop-r-test.false k.invariant.1
     ∙ ap (λ z. block B B (p z) a.out.now) (to_z-of_z c.ranges.corner)

@@ -1,5 +1,5 @@
--- `paeth_into` meets its contract. The invariant: the first r rows are written, and o is r bs. Assumes nothing.
-use Prim.Native.Nat.{ℕ, ◌≤◌, ◌-◌, ◌*◌}
+-- `paeth_into` meets its contract. The invariant: the first r rows are written. Assumes nothing.
+use Prim.Native.Nat.{ℕ, ◌*◌}
 use mathlib.Core.Path.{◌≡◌}
 use mathlib.Core.List.{List}
 use lib.ListN.{length}
@@ -14,8 +14,4 @@ abbrev pub at : ℕ → List ℤ → List ℤ → ℤ → ℕ → ℕ → Float
 at bs above left k r c = sample (paeth_at bs above left k r c)
 
 abbrev pub invariant-loop-r : goal.invariant-loop-r
-invariant-loop-r l =
-    (l.r ≤ l.bs) × (l.o ≡ l.r * l.bs) × (length l.out ≡ length l.initial.out) × (l.out ≡ filled l.o (rows l.bs (at l.bs l.above l.left l.corner)) l.initial.out)
-
-abbrev pub decreases-loop-r : goal.decreases-loop-r
-decreases-loop-r l = l.bs - l.r
+invariant-loop-r l = (length l.out ≡ length l.initial.out) × (l.out ≡ filled (l.r * l.bs) (rows l.bs (at l.bs l.above l.left l.corner)) l.initial.out)
