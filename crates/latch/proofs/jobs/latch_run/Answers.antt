@@ -1,6 +1,0 @@
--- `latch_run` meets its contract: the call's promise, with its answer's number. Assumes nothing.
-use Rattle.refusals.proofs.Promise.{numbered}
-use Rattle.latch.proofs.jobs.latch_run.Goals as goal
-
-pub returns : goal.returns
-returns c = numbered c.run.ensures c.number.ensures

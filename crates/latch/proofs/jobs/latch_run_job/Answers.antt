@@ -1,6 +1,0 @@
--- `latch_run_job` meets its contract: the call's promise, with its answer's number. Assumes nothing.
-use Rattle.refusals.proofs.Promise.{numbered}
-use Rattle.latch.proofs.jobs.latch_run_job.Goals as goal
-
-pub returns : goal.returns
-returns c = numbered c.run_job.ensures c.number.ensures
