@@ -8,7 +8,7 @@ use colour_samples::nine::Nine;
 use colour_samples::sample::Terms;
 
 // Sums over at most 256 samples of the products of own term o, square s and chroma y, of each by itself, and how many samples they are, n.
-#[derive(Clone, Copy)]
+#[derive(Clone, Copy, Default)]
 pub struct LineSums {
     pub oo: u32,
     pub os: u32,
@@ -34,17 +34,7 @@ impl LineSums {
     pub fn new() -> LineSums
         ensures { result ≡ no_line }
     {
-        LineSums {
-            oo: 0,
-            os: 0,
-            o: 0,
-            ss: 0,
-            s: 0,
-            n: 0,
-            oy: 0,
-            sy: 0,
-            y: 0,
-        }
+        LineSums::default()
     }
 
     // One sample more.
@@ -67,7 +57,7 @@ impl LineSums {
 }
 
 // The same sums over many lines.
-#[derive(Clone, Copy)]
+#[derive(Clone, Copy, Default)]
 pub struct LongSums {
     pub oo: u64,
     pub os: u64,
@@ -93,17 +83,7 @@ impl LongSums {
     pub fn new() -> LongSums
         ensures { result ≡ no_lines }
     {
-        LongSums {
-            oo: 0,
-            os: 0,
-            o: 0,
-            ss: 0,
-            s: 0,
-            n: 0,
-            oy: 0,
-            sy: 0,
-            y: 0,
-        }
+        LongSums::default()
     }
 
     // One line more.
