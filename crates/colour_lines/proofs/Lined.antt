@@ -4,8 +4,7 @@ use mathlib.Core.Bool.{Bool, true, ◌&&◌}
 use mathlib.Core.List.{List}
 use Prim.Native.Nat.{ℕ, ◌+◌, ◌*◌, ◌≤◌}
 use native.Mathlib.Omega.{arith}
-use lib.IntN.{ℤ, pos, nat_abs}
-use lib.ListN.{get_or}
+use lib.IntN.{ℤ, nat_abs}
 use mir.Syntax.{w32}
 use mir.Val.{of_z}
 use Rattle.numbers.specs.Depth.{most}
@@ -22,9 +21,8 @@ use Rattle.colour_samples.specs.Way.{low, low_terms, all_in, Met}
 use Rattle.colour_samples.proofs.Ranges.{most-small}
 use Rattle.colour_samples.proofs.Low.{low-terms-most}
 use Rattle.colour_samples.proofs.OneSample.{met-parts, sample-is}
-use Rattle.colour_lines.specs.declared.fast.LineSums.{LineSums}
 use Rattle.colour_lines.specs.Fold.{fold}
-use Rattle.colour_lines.specs.Fast.{no_line, line_added, with_line, LineMost}
+use Rattle.colour_lines.specs.Fast.{Sums, no_place, line_added, with_line, LineMost}
 use Rattle.colour_lines.specs.TookLines.{sample_at, read_at, more_at, TookLine}
 use Rattle.colour_lines.proofs.Folds.{fold-none, fold_next}
 use Rattle.colour_lines.proofs.LineLaws.{line_taken, line-nothing, line-empty, line-added, line-grown}
@@ -37,13 +35,13 @@ module _ (D : ℕ) (luma chroma : List ℤ) (q p step : ℕ) (g : Totals) where
   more k s = more_at D luma chroma (q + k * step) (p + k * step) s
 
   -- after i of its places
-  pub record InLine (i : ℕ) (seen : Seen) (line : LineSums) : Type 0 where
+  pub record InLine (i : ℕ) (seen : Seen) (line : Sums) : Type 0 where
     pub tested : all_in (most D) seen ≡ fold i test (all_in (most D) g.seen)
     pub kept : all_in (most D) seen ≡ true → all_in (most D) g.seen ≡ true
     pub summed : all_in (most D) seen ≡ true → with_line (middle D) g.sums line ≡ fold i more g.sums
     pub few : LineMost i line
 
-  pub line-start : InLine 0 g.seen no_line
+  pub line-start : InLine 0 g.seen no_place
   line-start = record {
     tested = sym (fold-none test _);
     kept = λ h. h;
@@ -53,7 +51,7 @@ module _ (D : ℕ) (luma chroma : List ℤ) (q p step : ℕ) (g : Totals) where
 
 module _ (D : ℕ) (one : 1 ≤ D) (twelve : D ≤ 12) (luma chroma : List ℤ) (q p step : ℕ) (g : Totals) where
   -- a place of the line more
-  pub line-more : (i : ℕ) (s : Sample) (seen seen' : Seen) (line : LineSums) → InLine D luma chroma q p step g i seen line
+  pub line-more : (i : ℕ) (s : Sample) (seen seen' : Seen) (line : Sums) → InLine D luma chroma q p step g i seen line
       → s ≡ sample_at luma chroma (q + i * step) (p + i * step) → Met s.own s.centre s.chroma seen seen'
       → InLine D luma chroma q p step g (i + 1) seen' (line_added line (low_terms D s.own s.centre) (low s.chroma))
   line-more i s seen seen' line h e m =
@@ -71,7 +69,7 @@ module _ (D : ℕ) (one : 1 ≤ D) (twelve : D ≤ 12) (luma chroma : List ℤ) 
       }
 
   -- the totals with the whole line
-  pub line-took : {n : ℕ} {seen : Seen} {line : LineSums} {s : Nine} → InLine D luma chroma q p step g n seen line
+  pub line-took : {n : ℕ} {seen : Seen} {line : Sums} {s : Nine} → InLine D luma chroma q p step g n seen line
       → s ≡ with_line (middle D) g.sums line → TookLine D luma chroma q p n step g (record { seen = seen; sums = s })
   line-took {n} {seen} {line} {s} h e = record {
     tested = h.tested;

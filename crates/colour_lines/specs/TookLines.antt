@@ -1,6 +1,6 @@
 -- What the code's functions over lines of places do to the totals (document 01, Colour parameters), each by the test and the sums of its places, which
 -- are told by their entries of the lists.
-use Rattle.std.specs.Prelude.{Bool, ◌&&◌, List, ℕ, ◌+◌, ◌-◌, ◌*◌, ◌^◌, ◌≤◌, ◌<◌, ℤ, pos, nat_abs, length, get_or}
+use Rattle.std.specs.Prelude.{Bool, ◌&&◌, List, ℕ, ◌+◌, ◌-◌, ◌*◌, ◌^◌, ℤ, pos, nat_abs, get_or}
 use Rattle.numbers.specs.Depth.{most}
 use Rattle.colour_samples.specs.declared.nine.Nine.{Nine}
 use Rattle.colour_samples.specs.declared.totals.Totals.{Totals}

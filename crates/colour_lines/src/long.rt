@@ -2,7 +2,7 @@
 // of the totals that its own stand for.
 ghost use Rattle.std.specs.Prelude.{◌≡◌};
 ghost use Rattle.colour_samples.specs.Way.{unseen};
-ghost use Rattle.colour_lines.specs.Fast.{no_lines};
+ghost use Rattle.colour_lines.specs.Fast.{no_place};
 ghost use Rattle.colour_lines.specs.Long.{as_totals};
 
 use crate::fast::{LineSums, LongSums};
@@ -22,7 +22,7 @@ pub struct LongTotals {
 impl LongTotals {
     // No place yet.
     pub fn new() -> LongTotals
-        ensures { result ≡ record { seen = unseen; sums = no_lines } }
+        ensures { result ≡ record { seen = unseen; sums = no_place } }
     {
         LongTotals::default()
     }
@@ -33,7 +33,7 @@ impl Tally for LongTotals {
 
     fn line(self, l: Line<'_>, depth: DepthTerms) -> LongTotals {
         let mut seen = self.seen;
-        let mut line = LineSums::new();
+        let mut line = LineSums::default();
         for i in 0..l.places {
             let s = l.sample(i);
             seen = seen.with(s);

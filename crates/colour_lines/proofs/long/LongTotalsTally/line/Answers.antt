@@ -7,7 +7,7 @@ use mir.Syntax.{w32}
 use mir.Val.{SFits}
 use Rattle.signed.proofs.Bound.{back}
 use Rattle.colour_terms.specs.Terms.{middle}
-use Rattle.colour_lines.specs.Fast.{line_added, nine_of}
+use Rattle.colour_lines.specs.Fast.{no_place, line_added, nine_of}
 use Rattle.colour_lines.specs.Long.{as_totals}
 use Rattle.colour_lines.proofs.LineLaws.{line-wider}
 use Rattle.colour_lines.proofs.LongLaws.{nine-plus, long-most, middle-one}
@@ -20,7 +20,8 @@ loop-i-init c =
     let d = a.depth.d in
     let l = a.l in
     let g = as_totals d a.self in
-    subst (InLine d l.luma.now l.chroma.now l.own l.at l.step g 0 a.self.seen) (sym c.new-line.ensures)
+    let e : c.default-line.result ≡ no_place = search rules in
+    subst (InLine d l.luma.now l.chroma.now l.own l.at l.step g 0 a.self.seen) (sym e)
     (line-start d l.luma.now l.chroma.now l.own l.at l.step g)
 
 pub add-line-requires : goal.add-line-requires
