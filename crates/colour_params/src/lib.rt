@@ -13,7 +13,7 @@ ghost use Rattle.colour_params.specs.Derived.{zeros, sampled, derived, Written};
 
 use colour_samples::sample::DepthTerms;
 use colour_sums::window;
-use colour_sums::window::{Gathered, Window};
+use colour_sums::window::Window;
 use elimination::Params;
 use numbers::answer::Answer;
 use numbers::colour::ColourDirection;
@@ -67,7 +67,7 @@ pub fn sampled(
         return accepted(colour_solve::flat());
     }
     let g = window::gather(luma, chroma, w, n, direction, DepthTerms::of(depth, d));
-    let Gathered::Sums(s) = g else {
+    let Some(s) = g else {
         return refused(Answer::BadColourSample);
     };
     if !colour_solve::is_small(s) {
