@@ -6,8 +6,7 @@ use native.Mathlib.Omega.{arith}
 use Rattle.colour_samples.specs.declared.nine.Nine.{Nine}
 use Rattle.colour_samples.specs.declared.sample.Terms.{Terms}
 use Rattle.colour_samples.specs.Nine.{added, NineMost, TermsMost}
-use Rattle.colour_lines.specs.declared.fast.LineSums.{LineSums}
-use Rattle.colour_lines.specs.Fast.{no_line, line_added, with_line, LineMost}
+use Rattle.colour_lines.specs.Fast.{Sums, no_place, line_added, with_line, LineMost}
 
 -- ---- with the third term m for the 1 that stood for it
 once : (s p x : ℕ) → s + (p + x) * 1 ≡ s + p * 1 + x
@@ -22,7 +21,7 @@ right s p o m = omega arith
 both : (s p m : ℕ) → s + (p + 1 * 1) * (m * m) ≡ s + p * (m * m) + m * m
 both s p m = omega arith
 
-pub line_taken : (s : Nine) (p : LineSums) (t : Terms) (k : ℕ) → with_line t.middle s (line_added p t k) ≡ added (with_line t.middle s p) t k
+pub line_taken : (s : Nine) (p : Sums) (t : Terms) (k : ℕ) → with_line t.middle s (line_added p t k) ≡ added (with_line t.middle s p) t k
 line_taken s p t k = λ j. record {
   a00 = once s.a00 p.oo (t.own * t.own) j;
   a01 = once s.a01 p.os (t.own * t.square) j;
@@ -35,7 +34,7 @@ line_taken s p t k = λ j. record {
   y2 = right s.y2 p.y k t.middle j;
 }
 
-pub line-nothing : (m : ℕ) (s : Nine) → with_line m s no_line ≡ s
+pub line-nothing : (m : ℕ) (s : Nine) → with_line m s no_place ≡ s
 line-nothing m s = λ j. record {
   a00 = zero_more s.a00 1 j;
   a01 = zero_more s.a01 1 j;
@@ -52,7 +51,7 @@ line-nothing m s = λ j. record {
     zero_more a b = omega arith
 
 -- ---- how much
-pub line-empty : LineMost 0 no_line
+pub line-empty : LineMost 0 no_place
 line-empty = record {
   oo = omega arith;
   os = omega arith;
@@ -65,7 +64,7 @@ line-empty = record {
   y = omega arith;
 }
 
-pub line-added : {m k : ℕ} {p : LineSums} {t : Terms} → LineMost m p → TermsMost 4095 t → k ≤ 4095 → LineMost (m + 1) (line_added p t k)
+pub line-added : {m k : ℕ} {p : Sums} {t : Terms} → LineMost m p → TermsMost 4095 t → k ≤ 4095 → LineMost (m + 1) (line_added p t k)
 line-added {m} h t k = record {
   oo = more h.oo t.own t.own;
   os = more h.os t.own t.square;
@@ -81,7 +80,7 @@ line-added {m} h t k = record {
     more : {s x y : ℕ} → s ≤ m * (4095 * 4095) → x ≤ 4095 → y ≤ 4095 → s + x * y ≤ (m + 1) * (4095 * 4095)
     more a hx hy = omega (arith, N.mul-le-mul hx hy)
 
-pub line-wider : {m n : ℕ} {p : LineSums} → m ≤ n → LineMost m p → LineMost n p
+pub line-wider : {m n : ℕ} {p : Sums} → m ≤ n → LineMost m p → LineMost n p
 line-wider {m} {n} l h = record {
   oo = omega (arith, h.oo);
   os = omega (arith, h.os);
@@ -94,7 +93,7 @@ line-wider {m} {n} l h = record {
   y = omega (arith, h.y);
 }
 
-pub line-grown : {b m n : ℕ} {s : Nine} {p : LineSums} → m ≤ 4095 → NineMost b s → LineMost n p → NineMost (b + n * (4095 * 4095)) (with_line m s p)
+pub line-grown : {b m n : ℕ} {s : Nine} {p : Sums} → m ≤ 4095 → NineMost b s → LineMost n p → NineMost (b + n * (4095 * 4095)) (with_line m s p)
 line-grown {b} {m} {n} l h k = record {
   a00 = omega (arith, h.a00, k.oo);
   a01 = omega (arith, h.a01, k.os);

@@ -5,9 +5,7 @@ use native.Mathlib.Nat as N
 use native.Mathlib.Omega.{arith}
 use Rattle.colour_terms.specs.Terms.{middle}
 use Rattle.colour_samples.specs.Nine.{none, NineMost}
-use Rattle.colour_lines.specs.declared.fast.LineSums.{LineSums}
-use Rattle.colour_lines.specs.declared.fast.LongSums.{LongSums}
-use Rattle.colour_lines.specs.Fast.{with_line, no_lines, plus_line, nine_of, LongMost}
+use Rattle.colour_lines.specs.Fast.{Sums, with_line, no_place, plus_line, nine_of, LongMost}
 
 once : (u p : ℕ) → u + p ≡ u + p * 1
 once u p = omega arith
@@ -16,7 +14,7 @@ times : (u p m : ℕ) → (u + p) * m ≡ u * m + p * m
 times u p m = omega arith
 
 -- a line more is a line that the nine sums take
-pub nine-plus : (m : ℕ) (u : LongSums) (p : LineSums) → nine_of m (plus_line u p) ≡ with_line m (nine_of m u) p
+pub nine-plus : (m : ℕ) (u : Sums) (p : Sums) → nine_of m (plus_line u p) ≡ with_line m (nine_of m u) p
 nine-plus m u p = λ j. record {
   a00 = once u.oo p.oo j;
   a01 = once u.os p.os j;
@@ -29,14 +27,14 @@ nine-plus m u p = λ j. record {
   y2 = times u.y p.y m j;
 }
 
-pub nine-none : (m : ℕ) → nine_of m no_lines ≡ none
+pub nine-none : (m : ℕ) → nine_of m no_place ≡ none
 nine-none m = λ j. record { a00 = 0; a01 = 0; a02 = zero m j; a11 = 0; a12 = zero m j; a22 = zero (m * m) j; y0 = 0; y1 = 0; y2 = zero m j }
   where
     zero : (n : ℕ) → 0 * n ≡ 0
     zero n = omega arith
 
 -- no sum is more than the one that it stands for
-pub long-most : {b m : ℕ} {u : LongSums} → 1 ≤ m → NineMost b (nine_of m u) → LongMost b u
+pub long-most : {b m : ℕ} {u : Sums} → 1 ≤ m → NineMost b (nine_of m u) → LongMost b u
 long-most {b} {m} {u} one h = record {
   oo = h.a00;
   os = h.a01;

@@ -3,14 +3,16 @@
 use Rattle.std.specs.Prelude.{ℕ, ◌+◌, ◌*◌, ◌≤◌}
 use Rattle.colour_samples.specs.declared.nine.Nine.{Nine}
 use Rattle.colour_samples.specs.declared.sample.Terms.{Terms}
-use Rattle.colour_lines.specs.declared.fast.LineSums.{LineSums}
-use Rattle.colour_lines.specs.declared.fast.LongSums.{LongSums}
+use Rattle.colour_lines.specs.declared.fast.PlaceSums.{PlaceSums}
 
--- sums over a line's samples of products of own term o, square s and chroma y, of each by itself, and their count n
-abbrev pub no_line : LineSums
-no_line = record { oo = 0; os = 0; o = 0; ss = 0; s = 0; n = 0; oy = 0; sy = 0; y = 0 }
+-- sums over samples of products of own term o, square s and chroma y, of each by itself, and their count n
+abbrev pub Sums : Type 0
+Sums = PlaceSums ℕ
 
-abbrev pub line_added : LineSums → Terms → ℕ → LineSums
+abbrev pub no_place : Sums
+no_place = record { oo = 0; os = 0; o = 0; ss = 0; s = 0; n = 0; oy = 0; sy = 0; y = 0 }
+
+abbrev pub line_added : Sums → Terms → ℕ → Sums
 line_added p t k = record {
   oo = p.oo + t.own * t.own;
   os = p.os + t.own * t.square;
@@ -24,7 +26,7 @@ line_added p t k = record {
 }
 
 -- of at most m samples of twelve digits
-pub record LineMost (m : ℕ) (p : LineSums) : Type 0 where
+pub record LineMost (m : ℕ) (p : Sums) : Type 0 where
   pub oo : p.oo ≤ m * (4095 * 4095)
   pub os : p.os ≤ m * (4095 * 4095)
   pub o : p.o ≤ m * 4095
@@ -36,7 +38,7 @@ pub record LineMost (m : ℕ) (p : LineSums) : Type 0 where
   pub y : p.y ≤ m * 4095
 
 -- the nine sums with a line more, whose third term is m
-abbrev pub with_line : ℕ → Nine → LineSums → Nine
+abbrev pub with_line : ℕ → Nine → Sums → Nine
 with_line m s p = record {
   a00 = s.a00 + p.oo * 1;
   a01 = s.a01 + p.os * 1;
@@ -50,10 +52,7 @@ with_line m s p = record {
 }
 
 -- the same sums over many lines, with a line more, and the nine sums that they stand for where the third term is m
-abbrev pub no_lines : LongSums
-no_lines = record { oo = 0; os = 0; o = 0; ss = 0; s = 0; n = 0; oy = 0; sy = 0; y = 0 }
-
-abbrev pub plus_line : LongSums → LineSums → LongSums
+abbrev pub plus_line : Sums → Sums → Sums
 plus_line u p = record {
   oo = u.oo + p.oo;
   os = u.os + p.os;
@@ -66,7 +65,7 @@ plus_line u p = record {
   y = u.y + p.y;
 }
 
-abbrev pub nine_of : ℕ → LongSums → Nine
+abbrev pub nine_of : ℕ → Sums → Nine
 nine_of m u = record {
   a00 = u.oo;
   a01 = u.os;
@@ -79,7 +78,7 @@ nine_of m u = record {
   y2 = u.y * m;
 }
 
-pub record LongMost (m : ℕ) (u : LongSums) : Type 0 where
+pub record LongMost (m : ℕ) (u : Sums) : Type 0 where
   pub oo : u.oo ≤ m
   pub os : u.os ≤ m
   pub o : u.o ≤ m

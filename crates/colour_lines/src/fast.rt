@@ -2,24 +2,30 @@
 // at the end. The nine sums that they stand for are those that `Nine::add` makes of the same samples (`line-more` of proofs/Lined.antt).
 ghost use Rattle.std.specs.Prelude.{◌≡◌, ◌+◌, ◌*◌, ◌≤◌, ◌<◌, ◌^◌};
 ghost use Rattle.colour_samples.specs.Nine.{TermsMost};
-ghost use Rattle.colour_lines.specs.Fast.{no_line, line_added, LineMost, no_lines, plus_line, nine_of, LongMost};
+ghost use Rattle.colour_lines.specs.Fast.{line_added, LineMost, plus_line, nine_of, LongMost};
 
 use colour_samples::nine::Nine;
 use colour_samples::sample::Terms;
 
-// Sums over at most 256 samples of the products of own term o, square s and chroma y, of each by itself, and how many samples they are, n.
-#[derive(Clone, Copy)]
-pub struct LineSums {
-    pub oo: u32,
-    pub os: u32,
-    pub o: u32,
-    pub ss: u32,
-    pub s: u32,
-    pub n: u32,
-    pub oy: u32,
-    pub sy: u32,
-    pub y: u32,
+// Sums over samples of the products of own term o, square s and chroma y, of each by itself, and how many samples they are, n.
+#[derive(Clone, Copy, Default)]
+pub struct PlaceSums<T> {
+    pub oo: T,
+    pub os: T,
+    pub o: T,
+    pub ss: T,
+    pub s: T,
+    pub n: T,
+    pub oy: T,
+    pub sy: T,
+    pub y: T,
 }
+
+// Over a line, which has at most 256 samples.
+pub type LineSums = PlaceSums<u32>;
+
+// Over many lines.
+pub type LongSums = PlaceSums<u64>;
 
 // A sum with the product of a and b added.
 fn more(sum: u32, a: u32, b: u32) -> u32
@@ -30,23 +36,6 @@ fn more(sum: u32, a: u32, b: u32) -> u32
 }
 
 impl LineSums {
-    // No sample yet.
-    pub fn new() -> LineSums
-        ensures { result ≡ no_line }
-    {
-        LineSums {
-            oo: 0,
-            os: 0,
-            o: 0,
-            ss: 0,
-            s: 0,
-            n: 0,
-            oy: 0,
-            sy: 0,
-            y: 0,
-        }
-    }
-
     // One sample more.
     pub fn add(self, t: Terms, chroma: u32) -> LineSums
         requires { LineMost 255 self × TermsMost 4095 t × (chroma ≤ 4095) }
@@ -66,20 +55,6 @@ impl LineSums {
     }
 }
 
-// The same sums over many lines.
-#[derive(Clone, Copy)]
-pub struct LongSums {
-    pub oo: u64,
-    pub os: u64,
-    pub o: u64,
-    pub ss: u64,
-    pub s: u64,
-    pub n: u64,
-    pub oy: u64,
-    pub sy: u64,
-    pub y: u64,
-}
-
 // A sum with the sum of a line added.
 fn sum(a: u64, b: u32) -> u64
     requires { a ≤ 2 ^ 41 }
@@ -89,23 +64,6 @@ fn sum(a: u64, b: u32) -> u64
 }
 
 impl LongSums {
-    // No line yet.
-    pub fn new() -> LongSums
-        ensures { result ≡ no_lines }
-    {
-        LongSums {
-            oo: 0,
-            os: 0,
-            o: 0,
-            ss: 0,
-            s: 0,
-            n: 0,
-            oy: 0,
-            sy: 0,
-            y: 0,
-        }
-    }
-
     // One line more.
     pub fn plus(self, p: LineSums) -> LongSums
         requires { LongMost (2 ^ 41) self }

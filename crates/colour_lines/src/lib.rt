@@ -4,3 +4,4 @@
 mod fast;
 pub mod lines;
 pub mod long;
+mod short;

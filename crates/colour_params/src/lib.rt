@@ -12,7 +12,7 @@ ghost use Rattle.colour_params.specs.Derived.{sampled, derived, with_zeros, Writ
 
 use colour_samples::sample::DepthTerms;
 use colour_sums::window;
-use colour_sums::window::{Gathered, Window};
+use colour_sums::window::Window;
 use elimination::Params;
 use numbers::answer::{Answer, Refusal};
 use numbers::colour::ColourDirection;
@@ -43,7 +43,7 @@ pub fn sampled(
         return Ok(colour_solve::flat());
     }
     let g = window::gather(luma, chroma, w, n, direction, DepthTerms::of(depth, d));
-    let Gathered::Sums(s) = g else {
+    let Some(s) = g else {
         return Err(Refusal::BadColourSample);
     };
     if !colour_solve::is_small(s) {

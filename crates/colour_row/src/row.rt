@@ -13,10 +13,8 @@ fn short_row(near: &[i32], centre: &[i32], k: Mix, row: &mut [i32])
     requires { MixReady k × Short k × Runs k near.now centre.now (length row.old) }
     ensures { row.new ≡ tab (length row.old) (λ i. mixed k (at near.now i) (at centre.now i)) }
 {
-    let mut i = 0;
-    while i < row.len() {
-        row[i] = value::short_sample(near[i], centre[i], k);
-        i += 1;
+    for (i, x) in row.iter_mut().enumerate() {
+        *x = value::short_sample(near[i], centre[i], k);
     }
 }
 
@@ -25,10 +23,8 @@ fn wide_row(near: &[i32], centre: &[i32], k: Mix, t0: &[i64], t1: &[i64], row: &
     requires { MixReady k × Both k t0.now t1.now × Runs k near.now centre.now (length row.old) }
     ensures { row.new ≡ tab (length row.old) (λ i. mixed k (at near.now i) (at centre.now i)) }
 {
-    let mut i = 0;
-    while i < row.len() {
-        row[i] = value::wide_sample(near[i], centre[i], k, t0, t1);
-        i += 1;
+    for (i, x) in row.iter_mut().enumerate() {
+        *x = value::wide_sample(near[i], centre[i], k, t0, t1);
     }
 }
 

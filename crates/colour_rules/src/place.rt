@@ -10,10 +10,7 @@ use colour_terms::reference::Reference;
 fn is_side(n: usize) -> bool
     ensures { result ≡ is_side n }
 {
-    if n < 1 {
-        return false;
-    }
-    n <= Block::LARGEST_SIDE
+    1 <= n && n <= Block::LARGEST_SIDE
 }
 
 // 12: the block's place.
@@ -21,34 +18,22 @@ pub fn is_placed(b: Block) -> bool
     requires { is_lines b.above_lines b.left_lines ≡ true }
     ensures { result ≡ is_placed b }
 {
-    if !is_side(b.width) {
-        return false;
-    }
-    if !is_side(b.height) {
-        return false;
-    }
-    if Reference::STRIDE < b.left_lines + b.width {
-        return false;
-    }
-    b.above_lines + b.height <= b.ref_height
+    is_side(b.width)
+        && is_side(b.height)
+        && b.left_lines + b.width <= Reference::STRIDE
+        && b.above_lines + b.height <= b.ref_height
 }
 
 // Whether a neighbour that is there has a line before the block.
 fn has_line(there: bool, lines: usize) -> bool
     ensures { result ≡ has_line there lines }
 {
-    if !there {
-        return true;
-    }
-    1 <= lines
+    !there || 1 <= lines
 }
 
 // 12: the neighbours.
 pub fn has_neighbours(b: Block) -> bool
     ensures { result ≡ has_lines b }
 {
-    if !has_line(b.have_top, b.above_lines) {
-        return false;
-    }
-    has_line(b.have_left, b.left_lines)
+    has_line(b.have_top, b.above_lines) && has_line(b.have_left, b.left_lines)
 }

@@ -14,17 +14,13 @@ use crate::block::Block;
 use colour_terms::reference::Reference;
 use direct_calls::range;
 
-// Whether the first n entries are in 0..m.
-fn run_in_range(xs: &[i32], n: usize, m: i32) -> bool
-    requires { n ≤ length xs.now }
-    ensures { result ≡ every (λ i. inside m (get_or xs.now i (pos 0))) n }
+// Whether all entries are in 0..m. All are looked at, whatever the first are: no branch inside.
+fn run_in_range(xs: &[i32], m: i32) -> bool
+    ensures { result ≡ every (λ i. inside m (get_or xs.now i (pos 0))) (length xs.now) }
 {
     let mut ok = true;
-    let mut i = 0;
-    while i < n {
-        let here = range::in_range(xs[i], m);
-        ok = ok & here;
-        i += 1;
+    for x in xs {
+        ok &= range::in_range(*x, m);
     }
     ok
 }
@@ -35,13 +31,9 @@ fn area_in_range(luma: &[i32], s: usize, width: usize, height: usize, m: i32) ->
     ensures { result ≡ every (λ j. every (λ i. inside m (get_or luma.now (s + j * stride + i) (pos 0))) width) height }
 {
     let mut ok = true;
-    let mut from = s;
-    let mut j = 0;
-    while j < height {
-        let here = run_in_range(&luma[from..], width, m);
-        ok = ok & here;
-        from += Reference::STRIDE;
-        j += 1;
+    for j in 0..height {
+        let from = s + j * Reference::STRIDE;
+        ok &= run_in_range(&luma[from..from + width], m);
     }
     ok
 }

@@ -9,7 +9,6 @@ use Rattle.numbers.specs.Depth.{most}
 use Rattle.numbers.specs.declared.colour.ColourDirection.{ColourDirection}
 use Rattle.signed.specs.Range.{inside}
 use Rattle.colour_terms.specs.Terms.{stride, eighth, middle}
-use Rattle.colour_samples.specs.declared.sample.DepthTerms.{DepthTerms}
 use Rattle.colour_samples.specs.declared.sample.Terms.{Terms}
 use Rattle.colour_samples.specs.declared.seen.Seen.{Seen}
 use Rattle.colour_samples.specs.Sample.{in_range}
@@ -17,14 +16,6 @@ use Rattle.colour_samples.specs.Sample.{in_range}
 -- how far before the centre, in entries of a list, the direction's luma stands
 abbrev pub behind : ColourDirection → ℕ
 behind direction = rows_up direction * stride + columns_left direction
-
--- what a depth gives
-pub record OfDepth (s : DepthTerms) : Type 0 where
-  pub least : 1 ≤ s.d
-  pub largest : s.d ≤ 12
-  pub most-is : s.most ≡ pos (most s.d)
-  pub top-is : s.top ≡ pos (8 * most s.d + 7)
-  pub middle-is : s.middle ≡ middle s.d
 
 -- ---- the terms by their last twelve binary digits; of a sample in range these are the terms (proofs/Low.antt)
 abbrev pub low : ℤ → ℕ

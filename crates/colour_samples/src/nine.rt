@@ -4,7 +4,7 @@ ghost use Rattle.colour_samples.specs.Nine.{none, added, NineMost, TermsMost};
 
 use crate::sample::Terms;
 
-#[derive(Clone, Copy)]
+#[derive(Clone, Copy, Default)]
 pub struct Nine {
     pub a00: u64,
     pub a01: u64,
@@ -33,17 +33,7 @@ impl Nine {
     pub fn new() -> Nine
         ensures { result ≡ none }
     {
-        Nine {
-            a00: 0,
-            a01: 0,
-            a02: 0,
-            a11: 0,
-            a12: 0,
-            a22: 0,
-            y0: 0,
-            y1: 0,
-            y2: 0,
-        }
+        Nine::default()
     }
 
     // One sample more, with its terms and its chroma.

@@ -2,13 +2,13 @@
 // range exactly when the digits that any of them has are.
 ghost use Rattle.std.specs.Prelude.{◌≡◌};
 ghost use Rattle.numbers.specs.Depth.{most};
-ghost use Rattle.colour_samples.specs.Way.{unseen, seen_with, all_in, Met, OfDepth};
+ghost use Rattle.colour_samples.specs.Way.{unseen, seen_with, all_in, Met};
 
-use crate::sample::DepthTerms;
+use crate::sample::{DepthTerms, Sample};
 use direct_calls::range;
 
 // The binary digits that any luma value, and any chroma value, had so far.
-#[derive(Clone, Copy)]
+#[derive(Clone, Copy, Default)]
 pub struct Seen {
     pub luma: i32,
     pub chroma: i32,
@@ -19,22 +19,21 @@ impl Seen {
     pub fn new() -> Seen
         ensures { result ≡ unseen }
     {
-        Seen { luma: 0, chroma: 0 }
+        Seen::default()
     }
 
     // The values of one sample more.
-    pub fn with(self, v: i32, c: i32, k: i32) -> Seen
-        ensures { (result ≡ seen_with self v c k) × Met v c k self result }
+    pub fn with(self, s: Sample) -> Seen
+        ensures { (result ≡ seen_with self s.own s.centre s.chroma) × Met s.own s.centre s.chroma self result }
     {
         Seen {
-            luma: self.luma | v | c,
-            chroma: self.chroma | k,
+            luma: self.luma | s.own | s.centre,
+            chroma: self.chroma | s.chroma,
         }
     }
 
     // Whether all values so far are in range.
     pub fn is_in_range(self, depth: DepthTerms) -> bool
-        requires { OfDepth depth }
         ensures { result ≡ all_in (most depth.d) self }
     {
         let a = range::in_range(self.luma, depth.top);

@@ -14,7 +14,8 @@ use Rattle.colour_samples.specs.Way.{behind}
 use Rattle.colour_samples.specs.Nine.{added}
 use Rattle.colour_samples.proofs.Ranges.{luma-at, behind-most}
 use Rattle.colour_lines.specs.Fold.{fold}
-use Rattle.colour_lines.specs.TookLines.{Grid, read_at, more_at, over_lines}
+use Rattle.colour_lines.specs.Held.{Grid}
+use Rattle.colour_lines.specs.TookLines.{read_at, more_at, over_lines}
 use Rattle.colour_lines.proofs.Folds.{fold_same}
 use Rattle.colour_sums.specs.Sum.{one_more}
 use Rattle.colour_sums.specs.AsLines.{readable, by_rows, by_columns}

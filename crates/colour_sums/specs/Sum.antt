@@ -1,6 +1,6 @@
 -- "adds to the nine sums, six of products and three with chroma" (document 01, Colour parameters): the sums, the count and the test of all places that
 -- count. Sums are whole numbers without a bound.
-use Rattle.std.specs.Prelude.{Bool, true, cond, ◌&&◌, List, ℕ, ◌+◌, ◌*◌, ◌≤◌, ℤ, nat_abs, length}
+use Rattle.std.specs.Prelude.{Bool, true, cond, ◌&&◌, Option, Some, None, List, ℕ, ◌+◌, ◌*◌, ◌≤◌, ℤ, nat_abs, length}
 use Rattle.numbers.specs.Depth.{most}
 use Rattle.numbers.specs.declared.colour.ColourDirection.{ColourDirection}
 use Rattle.colour_terms.specs.Terms.{stride}
@@ -8,8 +8,6 @@ use Rattle.colour_terms.specs.Reference.{most_lines}
 use Rattle.colour_samples.specs.declared.nine.Nine.{Nine}
 use Rattle.colour_samples.specs.Sample.{direction_luma, in_range_at, terms}
 use Rattle.colour_samples.specs.Nine.{none, added}
-use Rattle.colour_sums.specs.declared.window.Gathered.{Gathered}
-use Rattle.colour_sums.specs.declared.window.Gathered.TheVariants.{Sums, OutOfRange}
 use Rattle.colour_sums.specs.declared.window.Window.{Window}
 use Rattle.colour_sums.specs.Places.{walk}
 
@@ -27,9 +25,9 @@ count_of w = walk w (λ x y n. n + 1) 0
 abbrev pub is_readable : ℕ → ColourDirection → (ℕ → ℕ → ℤ) → (ℕ → ℕ → ℤ) → Window → Bool
 is_readable M direction luma chroma w = walk w (λ x y ok. ok && in_range_at M direction luma chroma x y) true
 
--- both of the two at once: the sums, or that something is not in range
-unfoldable pub gathered : ℕ → ColourDirection → (ℕ → ℕ → ℤ) → (ℕ → ℕ → ℤ) → Window → Gathered
-gathered D direction luma chroma w = cond (is_readable (most D) direction luma chroma w) (Sums (sums_of D direction luma chroma w)) OutOfRange
+-- both of the two at once: the sums, or none where something is not in range
+unfoldable pub gathered : ℕ → ColourDirection → (ℕ → ℕ → ℤ) → (ℕ → ℕ → ℤ) → Window → Option Nine
+gathered D direction luma chroma w = cond (is_readable (most D) direction luma chroma w) (Some (sums_of D direction luma chroma w)) None
 
 -- refusal 11 is not given
 pub record Laid (w : Window) (luma chroma : List ℤ) : Type 0 where

@@ -1,6 +1,6 @@
 // "Each reference sample that counts (index 1 to dimension - 2, and inside the above or left lines)" (document 01, Colour parameters): whole rows
 // inside the above lines, then the first columns of the rows below them. Places that cannot count are not visited.
-ghost use Rattle.std.specs.Prelude.{◌≡◌, ◌-◌, ◌≤◌};
+ghost use Rattle.std.specs.Prelude.{◌≡◌, ◌≤◌, ◌⊎◌};
 ghost use Rattle.colour_terms.specs.Reference.{most_lines};
 ghost use Rattle.colour_samples.specs.Way.{behind};
 ghost use Rattle.colour_sums.specs.Places.{rows_above, few};
@@ -11,25 +11,22 @@ use colour_lines::lines::Lines;
 use colour_terms::reference::Reference;
 use numbers::colour::ColourDirection;
 
-// a - b, and 0 where b is more.
-pub fn monus(a: usize, b: usize) -> usize
-    ensures { result ≡ a - b }
-{
-    if a < b { 0 } else { a - b }
-}
-
 // How many rows have all their columns inside the above lines.
 pub fn rows_above(w: Window) -> usize
     ensures { result ≡ rows_above w }
 {
-    minmax::min(monus(w.above_lines, 1), monus(w.ref_height, 2))
+    w.above_lines
+        .saturating_sub(1)
+        .min(w.ref_height.saturating_sub(2))
 }
 
 // How many columns of the other rows are inside the left lines.
 pub fn few(w: Window) -> usize
     ensures { result ≡ few w }
 {
-    minmax::min(monus(w.left_lines, 1), monus(w.ref_width, 2))
+    w.left_lines
+        .saturating_sub(1)
+        .min(w.ref_width.saturating_sub(2))
 }
 
 // How far before the centre, in entries, the direction's luma stands.
@@ -47,7 +44,7 @@ pub fn above_rows(w: Window) -> Lines
         at: Reference::STRIDE + 1,
         lines: rows_above(w),
         apart: Reference::STRIDE,
-        places: monus(w.ref_width, 2),
+        places: w.ref_width.saturating_sub(2),
         step: 1,
     }
 }
@@ -60,7 +57,7 @@ pub fn below_rows(w: Window) -> Lines
     let above = rows_above(w);
     Lines {
         at: (above + 1) * Reference::STRIDE + 1,
-        lines: monus(w.ref_height, 2) - above,
+        lines: w.ref_height.saturating_sub(2) - above,
         apart: Reference::STRIDE,
         places: few(w),
         step: 1,
@@ -79,5 +76,17 @@ pub fn below_columns(w: Window) -> Lines
         apart: l.step,
         places: l.lines,
         step: l.apart,
+    }
+}
+
+// The same by columns where these are few, so that a line is long.
+pub fn below(w: Window) -> Lines
+    requires { w.ref_height ≤ most_lines }
+    ensures { (result ≡ below_rows w) ⊎ (result ≡ below_columns w) }
+{
+    if few(w) < Window::FEW {
+        below_columns(w)
+    } else {
+        below_rows(w)
     }
 }

@@ -1,15 +1,15 @@
 // A reference window: how many of its places count, and the nine sums over them (document 01, Colour parameters).
-ghost use Rattle.std.specs.Prelude.{◌≡◌, cond, ◌≤◌};
-ghost use Rattle.numbers.specs.Depth.{most};
+ghost use Rattle.std.specs.Prelude.{◌≡◌, ◌≤◌, ◌⊎◌};
 ghost use Rattle.colour_terms.specs.Terms.{entry};
 ghost use Rattle.colour_terms.specs.Reference.{most_lines};
-ghost use Rattle.colour_samples.specs.Way.{all_in, OfDepth};
+ghost use Rattle.colour_samples.specs.Took.{empty};
 ghost use Rattle.colour_sums.specs.Sum.{Laid, count_of, gathered};
-ghost use Rattle.colour_sums.specs.AsLines.{TookAll};
+ghost use Rattle.colour_sums.specs.AsLines.{TookAll, below_rows, below_columns};
 
 use crate::places;
+use colour_lines::lines;
+use colour_lines::lines::{Lines, Tally};
 use colour_lines::long::LongTotals;
-use colour_lines::{lines, long};
 use colour_samples::nine::Nine;
 use colour_samples::sample::DepthTerms;
 use colour_samples::totals::Totals;
@@ -26,14 +26,7 @@ pub struct Window {
 
 impl Window {
     // Fewer places or columns than these are too few for the fast way.
-    const FEW: usize = 4;
-}
-
-// The nine sums, or that a value which is needed is not in range.
-#[derive(Clone, Copy)]
-pub enum Gathered {
-    Sums(Nine),
-    OutOfRange,
+    pub const FEW: usize = 4;
 }
 
 // How many places count.
@@ -42,76 +35,32 @@ pub fn count_of(w: Window) -> usize
     ensures { result ≡ count_of w }
 {
     let above = places::rows_above(w);
-    above * places::monus(w.ref_width, 2)
-        + (places::monus(w.ref_height, 2) - above) * places::few(w)
+    above * w.ref_width.saturating_sub(2)
+        + (w.ref_height.saturating_sub(2) - above) * places::few(w)
 }
 
-// All places, place by place.
-fn gather_short(
+// All places, into totals t of none: those inside the above lines, and those below them, by rows or by columns.
+fn gather_by<T: Tally>(
+    t: T,
     luma: &[i32],
     chroma: &[i32],
     w: Window,
+    below: Lines,
     direction: ColourDirection,
     depth: DepthTerms,
 ) -> Totals
-    requires { Laid w luma.now chroma.now × OfDepth depth }
+    requires laid { Laid w luma.now chroma.now }
+    requires nothing { T.stands_for depth.d t ≡ empty }
+    requires below_is { (below ≡ below_rows w) ⊎ (below ≡ below_columns w) }
     ensures { TookAll depth.d direction (entry luma.now) (entry chroma.now) w result }
 {
     let back = places::behind(direction);
-    let t = lines::short_lines(
-        Totals::new(),
-        luma,
-        chroma,
-        places::above_rows(w),
-        back,
-        depth,
-    );
-    lines::short_lines(t, luma, chroma, places::below_rows(w), back, depth)
+    let above = lines::take(t, luma, chroma, places::above_rows(w), back, depth);
+    lines::take(above, luma, chroma, below, back, depth).totals(depth)
 }
 
-// All places, the fast way: below the above lines by columns where these are few, so that a line is long.
-fn gather_long(
-    luma: &[i32],
-    chroma: &[i32],
-    w: Window,
-    direction: ColourDirection,
-    depth: DepthTerms,
-) -> Totals
-    requires { Laid w luma.now chroma.now × OfDepth depth }
-    ensures { TookAll depth.d direction (entry luma.now) (entry chroma.now) w result }
-{
-    let back = places::behind(direction);
-    let t = long::long_lines(
-        LongTotals::new(),
-        luma,
-        chroma,
-        places::above_rows(w),
-        back,
-        depth,
-    );
-    if places::few(w) < Window::FEW {
-        return long::long_lines(t, luma, chroma, places::below_columns(w), back, depth).totals(
-            depth,
-        );
-    }
-    long::long_lines(t, luma, chroma, places::below_rows(w), back, depth).totals(depth)
-}
-
-// What totals give: their sums, or that something is not in range.
-fn gathered_of(g: Totals, depth: DepthTerms) -> Gathered
-    requires { OfDepth depth }
-    ensures { result ≡ cond (all_in (most depth.d) g.seen) (Gathered.Sums g.sums) Gathered.OutOfRange }
-{
-    let seen = g.seen;
-    if !seen.is_in_range(depth) {
-        return Gathered::OutOfRange;
-    }
-    let s = g.sums;
-    Gathered::Sums(s)
-}
-
-// The nine sums over the places that count, or that something which the direction's rule needs there is not in range. n, how many count, only picks the
-// way.
+// The nine sums over the places that count, or none where something that the direction's rule needs there is not in range. n, how many count, only picks
+// the way: place by place, or the fast way.
 pub fn gather(
     luma: &[i32],
     chroma: &[i32],
@@ -119,12 +68,21 @@ pub fn gather(
     n: usize,
     direction: ColourDirection,
     depth: DepthTerms,
-) -> Gathered
-    requires { Laid w luma.now chroma.now × OfDepth depth }
+) -> Option<Nine>
+    requires { Laid w luma.now chroma.now }
     ensures { result ≡ gathered depth.d direction (entry luma.now) (entry chroma.now) w }
 {
-    if n < Window::FEW {
-        return gathered_of(gather_short(luma, chroma, w, direction, depth), depth);
+    let g = if n < Window::FEW {
+        let t = Totals::new();
+        gather_by(t, luma, chroma, w, places::below_rows(w), direction, depth)
+    } else {
+        let t = LongTotals::new();
+        gather_by(t, luma, chroma, w, places::below(w), direction, depth)
+    };
+    let seen = g.seen;
+    if seen.is_in_range(depth) {
+        Some(g.sums)
+    } else {
+        None
     }
-    gathered_of(gather_long(luma, chroma, w, direction, depth), depth)
 }

@@ -20,10 +20,7 @@ impl Reference {
     pub fn is_sizes(self) -> bool
         ensures { result ≡ is_sizes self.width self.height }
     {
-        if Reference::MOST < self.width {
-            return false;
-        }
-        self.height <= Reference::MOST
+        self.width <= Reference::MOST && self.height <= Reference::MOST
     }
 
     // Whether a list of n entries holds the rows.
@@ -43,15 +40,12 @@ pub fn is_reference(ref_width: usize, ref_height: usize, n: usize) -> bool
         width: ref_width,
         height: ref_height,
     };
-    if !r.is_sizes() {
-        return false;
-    }
-    r.is_held(n)
+    r.is_sizes() && r.is_held(n)
 }
 
 // 12: whether the lines are in range.
 pub fn is_lines(above_lines: usize, left_lines: usize) -> bool
     ensures { result ≡ is_lines above_lines left_lines }
 {
-    (above_lines <= Reference::MOST) & (left_lines <= Reference::MOST)
+    above_lines <= Reference::MOST && left_lines <= Reference::MOST
 }

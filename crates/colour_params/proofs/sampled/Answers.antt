@@ -25,23 +25,23 @@ returns-then-n-eq0 c =
 pub returns-in_default : goal.returns-in_default
 returns-in_default c =
     let a = c.args in
-    let e = c.gather-g.ensures ∙ ap (λ d. gathered d a.direction (entry a.luma.now) (entry a.chroma.now) a.w) c.of.ensures.0 in
+    let e = c.gather-g.ensures ∙ ap (λ d. gathered d a.direction (entry a.luma.now) (entry a.chroma.now) a.w) c.of.ensures in
     sampled-bad (entry a.luma.now) (entry a.chroma.now) a.w a.direction a.d
     (gathered_none a.d a.direction (entry a.luma.now) (entry a.chroma.now) a.w (sym e ∙ c.in_default.is))
 
 pub returns-then-not-is_small : goal.returns-then-not-is_small
 returns-then-not-is_small c =
     let a = c.args in
-    let e = c.gather-g.ensures ∙ ap (λ d. gathered d a.direction (entry a.luma.now) (entry a.chroma.now) a.w) c.of.ensures.0 in
-    let both = gathered-sums a.d a.direction (entry a.luma.now) (entry a.chroma.now) a.w c.in-Sums.s (sym e ∙ c.in-Sums.is) in
+    let e = c.gather-g.ensures ∙ ap (λ d. gathered d a.direction (entry a.luma.now) (entry a.chroma.now) a.w) c.of.ensures in
+    let both = gathered-sums a.d a.direction (entry a.luma.now) (entry a.chroma.now) a.w c.in-Some.s (sym e ∙ c.in-Some.is) in
     let small = c.is_small.ensures ∙ ap is_small both.1 in
     sampled-large (entry a.luma.now) (entry a.chroma.now) a.w a.direction a.d both.0 (sym small ∙ c.if-not-is_small.true)
 
 pub params_of-requires : goal.params_of-requires
 params_of-requires c =
     let a = c.args in
-    let e = c.gather-g.ensures ∙ ap (λ d. gathered d a.direction (entry a.luma.now) (entry a.chroma.now) a.w) c.of.ensures.0 in
-    let both = gathered-sums a.d a.direction (entry a.luma.now) (entry a.chroma.now) a.w c.in-Sums.s (sym e ∙ c.in-Sums.is) in
+    let e = c.gather-g.ensures ∙ ap (λ d. gathered d a.direction (entry a.luma.now) (entry a.chroma.now) a.w) c.of.ensures in
+    let both = gathered-sums a.d a.direction (entry a.luma.now) (entry a.chroma.now) a.w c.in-Some.s (sym e ∙ c.in-Some.is) in
     let least = subst (λ (d : ℕ). 1 ≤ d) c.requires.1 (bits-least a.depth) in (
       c.requires.1,
       omega (arith, c.if-n-eq0.false),
@@ -53,8 +53,8 @@ params_of-requires c =
 pub returns : goal.returns
 returns c =
     let a = c.args in
-    let e = c.gather-g.ensures ∙ ap (λ d. gathered d a.direction (entry a.luma.now) (entry a.chroma.now) a.w) c.of.ensures.0 in
-    let both = gathered-sums a.d a.direction (entry a.luma.now) (entry a.chroma.now) a.w c.in-Sums.s (sym e ∙ c.in-Sums.is) in
+    let e = c.gather-g.ensures ∙ ap (λ d. gathered d a.direction (entry a.luma.now) (entry a.chroma.now) a.w) c.of.ensures in
+    let both = gathered-sums a.d a.direction (entry a.luma.now) (entry a.chroma.now) a.w c.in-Some.s (sym e ∙ c.in-Some.is) in
     let small = c.is_small.ensures ∙ ap is_small both.1 in
     sampled-done (entry a.luma.now) (entry a.chroma.now) a.w a.direction a.d c.params_of.result both.0
     (sym small ∙ c.if-not-is_small.false)

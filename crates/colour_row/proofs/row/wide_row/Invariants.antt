@@ -1,15 +1,9 @@
 -- `wide_row` meets its contract. The invariant: the first i samples are written. Assumes nothing.
-use Prim.Native.Nat.{◌≤◌, ◌-◌}
 use mathlib.Core.Path.{◌≡◌}
-use lib.ListN.{length}
 use Rattle.lists.specs.Fill.{filled}
 use Rattle.colour_row.specs.Mixed.{mixed}
 use Rattle.colour_row.specs.Runs.{at}
 use Rattle.colour_row.proofs.row.wide_row.Given as goal
 
 abbrev pub invariant-loop-i : goal.invariant-loop-i
-invariant-loop-i l =
-    (l.i ≤ length l.initial.row) × (length l.row ≡ length l.initial.row) × (l.row ≡ filled l.i (λ x. mixed l.k (at l.near x) (at l.centre x)) l.initial.row)
-
-abbrev pub decreases-loop-i : goal.decreases-loop-i
-decreases-loop-i l = length l.initial.row - l.i
+invariant-loop-i l = l.row ≡ filled l.i (λ x. mixed l.k (at l.near x) (at l.centre x)) l.initial.row

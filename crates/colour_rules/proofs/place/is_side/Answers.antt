@@ -1,12 +1,12 @@
 -- `is_side` meets its contract. Assumes nothing.
-use borrow.Author.Tests.{le-leb, lt-leb}
+use Rattle.std.proofs.Common.{rules}
 use Rattle.colour_rules.specs.Rules.{is_side}
 use Rattle.colour_rules.proofs.place.is_side.Goals as goal
 
-pub returns-then-n-lt1 : goal.returns-then-n-lt1
+pub returns-then-n-ge1 : goal.returns-then-n-ge1
 unfolding is_side
-returns-then-n-lt1 c = simp (lt-leb 1 _ c.if-n-lt1.true)
+returns-then-n-ge1 c = search rules
 
-pub returns : goal.returns
+pub returns-else-n-ge1 : goal.returns-else-n-ge1
 unfolding is_side
-returns c = simp (le-leb 1 _ c.if-n-lt1.false)
+returns-else-n-ge1 c = search rules

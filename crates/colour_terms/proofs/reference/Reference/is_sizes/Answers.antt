@@ -1,12 +1,12 @@
 -- `Reference::is_sizes` meets its contract. Assumes nothing.
-use borrow.Author.Tests.{le-leb, lt-leb}
+use Rattle.std.proofs.Common.{rules}
 use Rattle.colour_terms.specs.Reference.{is_sizes}
 use Rattle.colour_terms.proofs.reference.Reference.is_sizes.Goals as goal
 
-pub returns-then-self-gt-MOST : goal.returns-then-self-gt-MOST
+pub returns-then-self-le-MOST : goal.returns-then-self-le-MOST
 unfolding is_sizes
-returns-then-self-gt-MOST c = simp (lt-leb _ _ c.if-self-gt-MOST.true)
+returns-then-self-le-MOST c = search rules
 
-pub returns : goal.returns
+pub returns-else-self-le-MOST : goal.returns-else-self-le-MOST
 unfolding is_sizes
-returns c = simp (le-leb _ _ c.if-self-gt-MOST.false)
+returns-else-self-le-MOST c = search rules
