@@ -1,4 +1,9 @@
-// A block of the picture, as numbers.
+// A block's samples, and the same as numbers.
+ghost use Rattle.std.specs.Prelude.{◌<◌};
+
+use crate::Spot;
+use greymap::Greymap;
+use std::array;
 
 // A whole sample as a number, and 0 for what is none.
 pub fn whole(v: f32) -> u16 {
@@ -10,36 +15,18 @@ pub fn whole(v: f32) -> u16 {
 }
 
 // The place of a block's sample in the picture, with i its number in the block.
-fn place(width: u16, x: u16, y: u16, i: u8) -> usize {
-    (y as usize + (i / 8) as usize) * width as usize + x as usize + (i % 8) as usize
+fn place(g: Greymap, at: Spot, i: usize) -> usize
+    requires { i < 64 }
+{
+    (usize::from(at.y()) + i / 8) * g.width() + usize::from(at.x()) + i % 8
 }
 
-fn sample_at(original: &[f32], at: usize) -> u16 {
-    if at < original.len() {
-        whole(original[at])
-    } else {
-        0
-    }
+// The samples that a plane has at a block, and 0.0 where it has none.
+pub fn samples_of(plane: &[f32], g: Greymap, at: Spot) -> [f32; 64] {
+    array::from_fn(|i| plane.get(place(g, at, i)).copied().unwrap_or(0.0))
 }
 
-// The block that starts at a column and a row.
-pub fn block_of(original: &[f32], width: u16, x: u16, y: u16) -> [u16; 64] {
-    let mut block = [0u16; 64];
-    for i in 0..64u8 {
-        block[i as usize] = sample_at(original, place(width, x, y, i));
-    }
-    block
-}
-
-fn float_at(plane: &[f32], at: usize) -> f32 {
-    if at < plane.len() { plane[at] } else { 0.0 }
-}
-
-// The same block as a plane has it, sample by sample.
-pub fn samples_of(plane: &[f32], width: u16, x: u16, y: u16) -> [f32; 64] {
-    let mut block = [0.0f32; 64];
-    for i in 0..64u8 {
-        block[i as usize] = float_at(plane, place(width, x, y, i));
-    }
-    block
+// The same as numbers.
+pub fn block_of(plane: &[f32], g: Greymap, at: Spot) -> [u16; 64] {
+    samples_of(plane, g, at).map(whole)
 }

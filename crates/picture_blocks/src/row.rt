@@ -1,6 +1,6 @@
 // A block's job: where it stands, and its row of words.
+use crate::Spot;
 use crate::candidate::Candidate;
-use crate::index;
 use block_spec::spec::IntraRefSpec;
 use greymap::Greymap;
 
@@ -14,23 +14,24 @@ fn base(d: u16) -> u16 {
 }
 
 // How many samples of the block above and to the right are there when a decoder comes to the block row by row.
-fn top_right(g: Greymap, c: u8, r: u8) -> u16 {
-    if r == 0 {
-        return 0;
+fn top_right(g: Greymap, at: Spot) -> u16 {
+    if at.row > 0 && u16::from(at.column) + 1 < u16::from(g.across) {
+        8
+    } else {
+        0
     }
-    if c as u16 + 1 < g.across as u16 { 8 } else { 0 }
 }
 
-// Where the block in a column and a row of blocks stands, with the neighbours that a decoder has: none below.
-pub fn spec_of(g: Greymap, c: u8, r: u8) -> IntraRefSpec {
+// Where a block stands, with the neighbours that a decoder has: none below.
+pub fn spec_of(g: Greymap, at: Spot) -> IntraRefSpec {
     IntraRefSpec {
-        x: 8 * c as u16,
-        y: 8 * r as u16,
+        x: at.x(),
+        y: at.y(),
         b: 8,
         d: g.d,
-        have_above: 0 < r,
-        have_left: 0 < c,
-        top_right: top_right(g, c, r),
+        have_above: at.row > 0,
+        have_left: at.column > 0,
+        top_right: top_right(g, at),
         bottom_left: 0,
         available_above: 8,
         available_left: 8,
@@ -38,17 +39,13 @@ pub fn spec_of(g: Greymap, c: u8, r: u8) -> IntraRefSpec {
     }
 }
 
-// Flag bits (document 01): 0 above, 1 left, 2 luma, 3 edge filter. A greymap is luma, and its edges are filtered.
-pub fn flags_of(c: u8, r: u8) -> u16 {
-    if r == 0 {
-        if c == 0 { 12 } else { 14 }
-    } else {
-        if c == 0 { 13 } else { 15 }
-    }
+// Flag bits (document 01): 0 above, 1 left, 2 luma, 3 edge filter. All edges are filtered.
+pub fn flags_of(at: Spot, is_luma: bool) -> u16 {
+    u16::from(at.row > 0) + 2 * u16::from(at.column > 0) + 4 * u16::from(is_luma) + 8
 }
 
-// The row's sixteen words (document 01); its differences, four sixteens a block, stand in the plan's order.
-fn words(s: IntraRefSpec, flags: u16, k: Candidate, index: u16) -> [u16; 16] {
+// The row's sixteen words (document 01), of which `start` is where its differences start, by sixteens.
+pub fn words(s: IntraRefSpec, flags: u16, k: Candidate, start: u16) -> [u16; 16] {
     [
         s.x,
         s.y,
@@ -65,24 +62,21 @@ fn words(s: IntraRefSpec, flags: u16, k: Candidate, index: u16) -> [u16; 16] {
         s.base,
         0,
         0,
-        index % 16384 * 4,
+        start,
     ]
 }
 
-// A row at its place in the plan, if there is room.
-fn put_words(words: &[u16; 16], index: u16, plan: &mut [u16]) {
-    let from = 16 * index as usize;
-    if plan.len() < from + 16 {
-        return;
-    }
-    for i in 0..16 {
-        plan[from + i] = words[i];
-    }
+// Where the differences of a job start, by sixteens: those of the jobs stand in the plan's order, four sixteens a block.
+pub fn start_of(job: u16) -> u16 {
+    job % 16384 * 4
 }
 
-// The row of the block in a column and a row of blocks, by the number of the predictor that was taken.
-pub fn put_row(g: Greymap, c: u8, r: u8, taken: u8, plan: &mut [u16]) {
-    let k = index(g.across, c, r);
-    let row = words(spec_of(g, c, r), flags_of(c, r), Candidate::of(taken), k);
-    put_words(&row, k, plan);
+// The row of a greymap's block, which is luma, by the number of the predictor that was taken.
+pub fn row_of(g: Greymap, at: Spot, taken: u8) -> [u16; 16] {
+    words(
+        spec_of(g, at),
+        flags_of(at, true),
+        Candidate::of(taken),
+        start_of(at.index(g.across)),
+    )
 }

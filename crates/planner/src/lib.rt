@@ -1,54 +1,27 @@
 // A picture's plan: for each block, row by row, a job by the predictor that comes nearest to it, with its differences.
 #![tactic(auto)]
 
-mod blocks;
-mod nearest;
-mod predict;
+mod tried;
 
 use greymap::Greymap;
-use nearest::Choice;
-use picture_blocks::row;
+use picture_blocks::candidate::Choice;
+use picture_blocks::{Spot, row};
+use tried::Tried;
 
-// What was taken for the block of an index.
-fn note(best: Choice, index: u16, taken: &mut [u8], errors: &mut [u32]) {
-    let k = index as usize;
-    if taken.len() <= k {
-        return;
-    }
-    if errors.len() <= k {
-        return;
-    }
-    taken[k] = best.number;
-    errors[k] = best.error;
-}
-
-// The job of the block of an index, and what was taken for it.
-fn put_at(
-    original: &[f32],
-    g: Greymap,
-    k: u16,
-    plan: &mut [u16],
-    differences: &mut [i16],
-    taken: &mut [u8],
-    errors: &mut [u32],
-) {
-    let c = picture_blocks::column_of(g.across, k);
-    let r = picture_blocks::row_of(g.across, k);
-    let best = blocks::put_block(original, g, c, r, differences);
-    row::put_row(g, c, r, best.number, plan);
-    note(best, k, taken, errors);
-}
-
-// The whole plan, as far as there is room; for each block also the number of the predictor that was taken, and its error.
+// The whole plan, as far as there is room: for each block its row, its differences, and which predictor was taken.
 pub fn make(
     original: &[f32],
     g: Greymap,
-    plan: &mut [u16],
-    differences: &mut [i16],
-    taken: &mut [u8],
-    errors: &mut [u32],
+    rows: &mut [[u16; 16]],
+    differences: &mut [[i16; 64]],
+    choices: &mut [Choice],
 ) {
     for k in 0..greymap::product(g.across, g.down) {
-        put_at(original, g, k, plan, differences, taken, errors);
+        let at = Spot::of(k, g.across);
+        let tried = Tried::on(original, g, at);
+        let best = tried.nearest();
+        picture_blocks::put(rows, k, row::row_of(g, at, best.number));
+        picture_blocks::put(differences, k, tried.differences(best.number));
+        picture_blocks::put(choices, k, best);
     }
 }

@@ -2,86 +2,64 @@
 #![tactic(auto)]
 
 pub mod count;
-mod room;
 
 use greymap::Greymap;
-use numbers::answer;
-use picture_blocks::order;
+use numbers::answer::Answer;
+use picture_blocks::{UNWRITTEN, order};
+
+// A plan of a picture or of a still: its jobs' rows of N words, and their differences.
+#[derive(Clone, Copy)]
+pub struct Plan<'a, const N: usize> {
+    pub g: Greymap,
+    pub rows: &'a [[u16; N]],
+    pub differences: &'a [[i16; 64]],
+}
 
 // The run's answer, how many jobs it did, and how many samples equal the original's.
-#[derive(Clone, Copy)]
+#[derive(Clone, Copy, Debug, PartialEq, Eq)]
 pub struct Rebuilt {
-    pub answer: u32,
+    pub answer: Answer,
     pub done: usize,
     pub equal: usize,
 }
 
-// The run's answer's number, with the first entries of the answers; where they are too short the run itself refuses.
-fn run(
-    plane: &mut [f32],
-    g: Greymap,
-    plan: &[u16],
-    order: &[u16],
-    differences: &[i16],
-    answers: &mut [u16],
-) -> u32 {
-    let from = 0;
-    let to = order.len().min(answers.len());
-    answer::number(plan::run(
+// An answer that no run gives.
+pub const UNANSWERED: u16 = u16::MAX;
+
+// The jobs are run in an order over a picture that holds no sample yet; where a list is too short the run itself refuses.
+fn rebuild(original: &[f32], plan: Plan<'_, 16>, order: &[u16; 64]) -> Rebuilt {
+    let g = plan.g;
+    let order = series::first(order, g.jobs());
+    let mut plane = UNWRITTEN;
+    let plane = &mut plane[..original.len().min(4096)];
+    let mut answers = [UNANSWERED; 64];
+    let answers = &mut answers[..order.len().min(64)];
+    let answer = plan::run(
         plane,
         g.width(),
         g.height(),
-        plan,
+        series::first(plan.rows, g.jobs()).as_flattened(),
         order,
-        differences,
-        &mut answers[from..to],
-    ))
-}
-
-// The run over a plane.
-fn on_plane(
-    plane: &mut [f32],
-    original: &[f32],
-    g: Greymap,
-    plan: &[u16],
-    order: &[u16],
-    differences: &[i16],
-) -> Rebuilt {
-    let mut answers = room::answers();
-    let answer = run(plane, g, plan, order, differences, &mut answers);
+        plan.differences.as_flattened(),
+        answers,
+    );
     Rebuilt {
         answer,
-        done: count::count_done(series::first(&answers, order.len())),
+        done: count::count_done(answers),
         equal: count::count_equal(original, plane),
     }
 }
 
-// The picture's rows and jobs of a plan and an order are run over a plane that holds no sample yet.
-fn rebuild(
-    original: &[f32],
-    g: Greymap,
-    plan: &[u16],
-    order: &[u16],
-    differences: &[i16],
-) -> Rebuilt {
-    let mut plane = room::unwritten();
-    let from = 0;
-    let to = original.len().min(4096);
-    let rows = series::first(plan, 16 * g.jobs());
-    let jobs = series::first(order, g.jobs());
-    on_plane(&mut plane[from..to], original, g, rows, jobs, differences)
-}
-
 // The picture rebuilt row by row.
-pub fn in_rows(original: &[f32], g: Greymap, plan: &[u16], differences: &[i16]) -> Rebuilt {
-    let mut order = room::order();
+pub fn in_rows(original: &[f32], plan: Plan<'_, 16>) -> Rebuilt {
+    let mut order = [0; 64];
     order::in_rows(&mut order);
-    rebuild(original, g, plan, &order, differences)
+    rebuild(original, plan, &order)
 }
 
 // The picture rebuilt as a wavefront.
-pub fn in_waves(original: &[f32], g: Greymap, plan: &[u16], differences: &[i16]) -> Rebuilt {
-    let mut order = room::order();
-    order::in_waves(g, &mut order);
-    rebuild(original, g, plan, &order, differences)
+pub fn in_waves(original: &[f32], plan: Plan<'_, 16>) -> Rebuilt {
+    let mut order = [0; 64];
+    order::in_waves(plan.g, &mut order);
+    rebuild(original, plan, &order)
 }

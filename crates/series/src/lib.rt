@@ -5,9 +5,21 @@ pub mod checked;
 pub mod kind;
 pub mod room;
 
+ghost use Rattle.std.specs.Prelude.{◌≤◌, length};
+
 // The first n entries of a list, or all where it has fewer.
-pub fn first<T>(list: &[T], n: usize) -> &[T] {
+pub fn first<T>(list: &[T], n: usize) -> &[T]
+    ensures { length result.now ≤ length list.now }
+{
     list.get(..n).unwrap_or(list)
+}
+
+// The same, to be written.
+pub fn first_mut<T>(list: &mut [T], n: usize) -> &mut [T]
+    ensures { length result.now ≤ length list.old }
+{
+    let n = n.min(list.len());
+    &mut list[..n]
 }
 
 // Fills a list with what the numbers at a text's front stand for, and hands back the text after them.

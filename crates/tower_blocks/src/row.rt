@@ -1,53 +1,42 @@
-// The rows of a plan: what each block's job is, by a number.
-use crate::words;
+// The rows of a plan: what each block's job is, by a number: 0 to 3 by that mode, and from 4 on from luma by one of the colour directions.
+use crate::{PlaneBlock, words};
 use greymap::Greymap;
 use picture_blocks::row;
+use std::ops::Range;
 use tower_words::mode::ColourMode;
 
-// What a job can be: by mode 0 to 3, or from luma by one of the colour directions.
-#[derive(Clone, Copy)]
-pub struct Number;
+// The numbers of the jobs by a plain mode.
+pub const PLAIN: Range<u8> = 0..FIRST_COLOUR;
 
-impl Number {
-    pub const FIRST_COLOUR: u8 = 4;
+// The numbers of the jobs from luma.
+pub const COLOUR: Range<u8> = FIRST_COLOUR..7;
 
-    pub const COUNT: u8 = 7;
-}
+pub const FIRST_COLOUR: u8 = 4;
 
-// The row of a plane's block, by its job's number.
-pub fn row_of(g: Greymap, plane: u16, block: u16, number: u8, start: u16) -> [u16; 32] {
-    let c = picture_blocks::column_of(g.across, block);
-    let r = picture_blocks::row_of(g.across, block);
-    if number < Number::FIRST_COLOUR {
-        words::plain(row::spec_of(g, c, r), plane, c, r, number as u16, start)
+// The row of a block's job, by its number. Its differences, if it has any, start after so many sixteens.
+pub fn row_of(g: Greymap, b: PlaneBlock, number: u8, start: u16) -> [u16; 32] {
+    if number < FIRST_COLOUR {
+        words::plain(g, b, u16::from(number), start)
     } else {
-        words::colour(g.d, plane, c, r, number as u16 - 4)
+        words::colour(g, b, u16::from(number - FIRST_COLOUR))
     }
 }
 
-// A row at its place in the plan, if there is room.
-pub fn put_row(row: &[u16; 32], job: u16, plan: &mut [u16]) {
-    let from = 32 * job as usize;
-    if plan.len() < from + 32 {
-        return;
-    }
-    for i in 0..32 {
-        plan[from + i] = row[i];
-    }
+// The same in a plan, where the jobs' differences stand in their order.
+pub fn planned(g: Greymap, b: PlaneBlock, number: u8) -> [u16; 32] {
+    row_of(g, b, number, row::start_of(b.job(g)))
 }
 
-// A word of a job's row, and 0 where there is none.
-fn word(plan: &[u16], job: u16, place: u8) -> u16 {
-    let at = 32 * job as usize + place as usize;
-    if at < plan.len() { plan[at] } else { 0 }
+// Puts the row of a block's job at its place in a plan, if there is room.
+pub fn put_row(g: Greymap, b: PlaneBlock, number: u8, rows: &mut [[u16; 32]]) {
+    picture_blocks::put(rows, b.job(g), planned(g, b, number));
 }
 
-// The number of a job of a plan.
-pub fn number_of(plan: &[u16], job: u16) -> u8 {
-    let mode = word(plan, job, 4);
-    if mode == ColourMode::NUMBER {
-        (word(plan, job, 17) % 3) as u8 + Number::FIRST_COLOUR
+// The number of the job that a row is of.
+pub fn number_of(row: &[u16; 32]) -> u8 {
+    if row[4] == ColourMode::NUMBER {
+        (row[17] % 3) as u8 + FIRST_COLOUR
     } else {
-        (mode % 4) as u8
+        (row[4] % 4) as u8
     }
 }

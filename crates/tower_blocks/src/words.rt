@@ -1,71 +1,50 @@
 // The thirty-two words of a job (document 01; from word 16 on document 02, request (v)): by a plain mode with differences, or from luma without.
-ghost use Rattle.std.specs.Prelude.{◌≤◌};
-
-use block_spec::spec::IntraRefSpec;
+use crate::PlaneBlock;
+use crate::plane::Plane;
+use greymap::Greymap;
+use picture_blocks::candidate::Candidate;
+use picture_blocks::row;
 use tower_words::mode::ColourMode;
 
-// 1 where a block in a column, or in a row, has one before it.
-fn there(line: u8) -> u16
-    ensures { result ≤ 1 }
-{
-    if line == 0 { 0 } else { 1 }
-}
-
-// Flag bits (document 01): 0 above, 1 left, 2 luma, 3 edge filter.
-fn flags_of(plane: u16, c: u8, r: u8) -> u16 {
-    let above = there(r);
-    let left = 2 * there(c);
-    if plane == 0 {
-        12 + above + left
-    } else {
-        8 + above + left
-    }
-}
-
-// Where the block before one starts, or itself where there is none.
+// Where the block before one starts, in a column or in a row of blocks, or itself where there is none.
 fn before(line: u8) -> u16 {
-    if line == 0 { 0 } else { 8 * (line as u16 - 1) }
+    8 * u16::from(line.saturating_sub(1))
 }
 
-// Of a block in a column and a row of blocks, which stands as s says: mode 0 to 3. Its differences start after so many sixteens.
-pub fn plain(s: IntraRefSpec, plane: u16, c: u8, r: u8, mode: u16, start: u16) -> [u16; 32] {
-    let mut words = [0u16; 32];
-    words[0] = s.x;
-    words[1] = s.y;
-    words[2] = s.b;
-    words[3] = s.d;
-    words[4] = mode;
-    words[7] = flags_of(plane, c, r);
-    words[8] = s.top_right;
-    words[9] = s.bottom_left;
-    words[10] = s.available_above;
-    words[11] = s.available_left;
-    words[12] = s.base;
-    words[15] = start;
-    words[16] = plane;
+// By mode 0 to 3. Its differences start after so many sixteens.
+pub fn plain(g: Greymap, b: PlaneBlock, mode: u16, start: u16) -> [u16; 32] {
+    let flags = row::flags_of(b.at, b.plane == Plane::Luma);
+    let mode = Candidate {
+        mode,
+        direction: 0,
+        delta: 0,
+    };
+    let mut words = [0; 32];
+    words[..16].copy_from_slice(&row::words(row::spec_of(g, b.at), flags, mode, start));
+    words[16] = b.plane.number();
     words
 }
 
-// The same from luma, by a colour direction: of the blocks above and to the left, where they are there, all eight lines count.
-pub fn colour(d: u16, plane: u16, c: u8, r: u8, direction: u16) -> [u16; 32] {
-    let above = 8 * there(r);
-    let left = 8 * there(c);
-    let mut words = [0u16; 32];
-    words[0] = 8 * c as u16;
-    words[1] = 8 * r as u16;
-    words[3] = d;
+// From luma, by a colour direction: of the blocks above and to the left, where they are there, all eight lines count.
+pub fn colour(g: Greymap, b: PlaneBlock, direction: u16) -> [u16; 32] {
+    let has_above = u16::from(b.at.row > 0);
+    let has_left = u16::from(b.at.column > 0);
+    let mut words = [0; 32];
+    words[0] = b.at.x();
+    words[1] = b.at.y();
+    words[3] = g.d;
     words[4] = ColourMode::NUMBER;
-    words[16] = plane;
+    words[16] = b.plane.number();
     words[17] = direction;
-    words[18] = above;
-    words[19] = left;
-    words[20] = left + 8;
-    words[21] = above + 8;
+    words[18] = 8 * has_above;
+    words[19] = 8 * has_left;
+    words[20] = 8 * has_left + 8;
+    words[21] = 8 * has_above + 8;
     words[22] = 8;
     words[23] = 8;
-    words[24] = before(c);
-    words[25] = before(r);
-    words[26] = there(r);
-    words[27] = there(c);
+    words[24] = before(b.at.column);
+    words[25] = before(b.at.row);
+    words[26] = has_above;
+    words[27] = has_left;
     words
 }

@@ -2,69 +2,56 @@
 // the plain mode that comes nearest, with its differences, and so is exact.
 #![tactic(auto)]
 
-mod put;
+use picture_blocks::{Spot, block, distance};
+use tower_blocks::plane::{Plane, Planes};
+use tower_blocks::{PlaneBlock, row};
 
-use greymap::Greymap;
-use tower_blocks::{room, row};
-
-// The jobs of a plane, and their differences, as far as there is room. Each is run as it is chosen: the next ones read what it wrote.
-fn put_plane(
-    p0: &mut [f32],
-    p1: &mut [f32],
-    p2: &mut [f32],
-    original: &[f32],
-    g: Greymap,
-    plane: u16,
-    plan: &mut [u16],
-    differences: &mut [i16],
+// The differences of a job by a plain mode: the block's from what the job without them makes of it.
+fn put_differences(
+    planes: &mut Planes,
+    b: PlaneBlock,
+    number: u8,
+    due: &[u16; 64],
+    differences: &mut [[i16; 64]],
 ) {
-    for block in 0..greymap::product(g.across, g.down) {
-        let number = put::put_block(p0, p1, p2, original, g, plane, block, differences);
-        let job = tower_blocks::job_of(g, plane, block);
-        row::put_row(&put::row_at(g, plane, block, number), job, plan);
+    let g = planes.g;
+    planes.run_alone(&row::row_of(g, b, number, 0), &[0; 64]);
+    let left = distance::differences_of(&planes.block(b), due);
+    picture_blocks::put(differences, b.job(g), left);
+}
+
+// The job of a block, and its differences at their place. It is run as it is chosen: the next ones read what it wrote.
+fn put_job(
+    planes: &mut Planes,
+    original: &Planes,
+    b: PlaneBlock,
+    rows: &mut [[u16; 32]],
+    differences: &mut [[i16; 64]],
+) {
+    let g = planes.g;
+    let due = block::block_of(original.samples(b.plane), g, b.at);
+    let number = tower_choice::choose(planes, b, &due);
+    if number < row::FIRST_COLOUR {
+        put_differences(planes, b, number, &due, differences);
     }
+    planes.run_alone(&row::planned(g, b, number), differences.as_flattened());
+    row::put_row(g, b, number, rows);
 }
 
-// The jobs of all three planes.
-fn put_planes(
-    p0: &mut [f32],
-    p1: &mut [f32],
-    p2: &mut [f32],
-    luma: &[f32],
-    cb: &[f32],
-    cr: &[f32],
-    g: Greymap,
-    plan: &mut [u16],
-    differences: &mut [i16],
-) {
-    put_plane(p0, p1, p2, luma, g, 0, plan, differences);
-    put_plane(p0, p1, p2, cb, g, 1, plan, differences);
-    put_plane(p0, p1, p2, cr, g, 2, plan, differences);
-}
-
-// The whole plan, from the three planes of the original.
-pub fn make(
-    luma: &[f32],
-    cb: &[f32],
-    cr: &[f32],
-    g: Greymap,
-    plan: &mut [u16],
-    differences: &mut [i16],
-) {
-    let mut p0 = room::unwritten();
-    let mut p1 = room::unwritten();
-    let mut p2 = room::unwritten();
-    let from = 0;
-    let to = g.area().min(4096);
-    put_planes(
-        &mut p0[from..to],
-        &mut p1[from..to],
-        &mut p2[from..to],
-        luma,
-        cb,
-        cr,
-        g,
-        plan,
-        differences,
-    );
+// The whole plan of an original, as far as there is room.
+pub fn make(original: &Planes, rows: &mut [[u16; 32]], differences: &mut [[i16; 64]]) {
+    let g = original.g;
+    let mut planes = Planes::unwritten(g);
+    for plane in Plane::ALL {
+        for k in 0..greymap::product(g.across, g.down) {
+            let at = Spot::of(k, g.across);
+            put_job(
+                &mut planes,
+                original,
+                PlaneBlock { plane, at },
+                rows,
+                differences,
+            );
+        }
+    }
 }

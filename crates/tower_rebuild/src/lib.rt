@@ -1,67 +1,79 @@
-// A colour still rebuilt from nothing by one run of its plan in an order, and by a second run in another, held against the first.
+// A colour still rebuilt from nothing by one run of its plan in an order, and held against another run.
 #![tactic(auto)]
 
-pub mod again;
-pub mod room;
+ghost use Rattle.std.specs.Prelude.{◌≤◌};
 
-use greymap::Greymap;
-use numbers::answer;
+use numbers::answer::Answer;
 use picture_blocks::order;
+use rebuild::{Plan, UNANSWERED, count};
+use tower_blocks::plane::{Plane, Planes};
+use tower_blocks::waves;
 
-// The run's answer's number, with the first entries of the answers; where a list is too short the run itself refuses.
-fn run(
-    p0: &mut [f32],
-    p1: &mut [f32],
-    p2: &mut [f32],
-    g: Greymap,
-    plan: &[u16],
-    order: &[u16],
-    differences: &[i16],
-    answers: &mut [u16],
-) -> u32 {
-    let from = 0;
-    let to = order.len().min(answers.len());
-    answer::number(tower_plan::run(
-        p0,
-        p1,
-        p2,
-        g.width(),
-        g.height(),
-        plan,
+// What a run left: the planes, its answer, and the jobs' answers in the first places.
+#[derive(Drop)]
+pub struct Rebuilt {
+    pub planes: Planes,
+    pub answer: Answer,
+    answers: [u16; 192],
+}
+
+impl Rebuilt {
+    // The jobs' answers, by their numbers.
+    pub fn answers(&self) -> &[u16] {
+        series::first(&self.answers, tower_blocks::jobs(self.planes.g))
+    }
+
+    // How many jobs it did.
+    pub fn done(&self) -> usize {
+        count::count_done(self.answers())
+    }
+
+    // How many samples of a plane are other than those of another run.
+    fn others_in(&self, run: &Rebuilt, plane: Plane) -> usize
+        ensures { result ≤ 4096 }
+    {
+        let samples = run.planes.samples(plane);
+        let equal = count::count_equal(samples, self.planes.samples(plane));
+        samples.len().saturating_sub(equal)
+    }
+
+    // How many samples are other than those of another run.
+    pub fn others(&self, run: &Rebuilt) -> usize {
+        self.others_in(run, Plane::Luma)
+            + self.others_in(run, Plane::Cb)
+            + self.others_in(run, Plane::Cr)
+    }
+}
+
+// The jobs are run in an order over planes that hold no sample yet; where a list is too short the run itself refuses.
+fn rebuild(plan: Plan<'_, 32>, order: &[u16]) -> Rebuilt {
+    let order = series::first(order, tower_blocks::jobs(plan.g));
+    let mut planes = Planes::unwritten(plan.g);
+    let mut answers = [UNANSWERED; 192];
+    let n = order.len().min(192);
+    let answer = planes.run(
+        plan.rows.as_flattened(),
         order,
-        differences,
-        &mut answers[from..to],
-    ))
+        plan.differences.as_flattened(),
+        &mut answers[..n],
+    );
+    Rebuilt {
+        planes,
+        answer,
+        answers,
+    }
 }
 
 // The planes rebuilt plane by plane, in the plan's own order.
-pub fn in_planes(
-    p0: &mut [f32],
-    p1: &mut [f32],
-    p2: &mut [f32],
-    g: Greymap,
-    plan: &[u16],
-    differences: &[i16],
-    answers: &mut [u16],
-) -> u32 {
-    let mut order = room::order();
+pub fn in_planes(plan: Plan<'_, 32>) -> Rebuilt {
+    let mut order = [0; 192];
     order::in_rows(&mut order);
-    let jobs = series::first(&order, tower_blocks::jobs(g));
-    run(p0, p1, p2, g, plan, jobs, differences, answers)
+    rebuild(plan, &order)
 }
 
 // The same as a wavefront.
-fn in_waves(
-    p0: &mut [f32],
-    p1: &mut [f32],
-    p2: &mut [f32],
-    g: Greymap,
-    plan: &[u16],
-    differences: &[i16],
-    answers: &mut [u16],
-) -> u32 {
-    let mut order = room::order();
-    tower_blocks::waves::in_waves(g, &mut order);
-    let jobs = series::first(&order, tower_blocks::jobs(g));
-    run(p0, p1, p2, g, plan, jobs, differences, answers)
+pub fn in_waves(plan: Plan<'_, 32>) -> Rebuilt {
+    let mut order = [[0; 3]; 64];
+    waves::in_waves(plan.g, &mut order);
+    rebuild(plan, order.as_flattened())
 }
