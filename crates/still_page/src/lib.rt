@@ -1,7 +1,6 @@
-// What the program `still` prints: its page, part by part, and what is wrong with a file.
+// What the program `still` prints: its page, part by part.
 #![tactic(auto)]
 
-pub mod fault;
 mod heading;
 mod legend;
 pub mod map;

@@ -25,7 +25,7 @@ pub fn print_rebuilt(
     equal: usize,
 ) -> io::Result<()> {
     print!(rt;
-        "{name}{done:>8} of {:>2}{equal:>8} of {:>4}",
+        "     {name:<20}{done:>8} of {:>2}{equal:>8} of {:>4}",
         g.jobs(),
         g.area()
     )?;
