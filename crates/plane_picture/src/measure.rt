@@ -19,42 +19,15 @@ pub struct Range {
     pub most: u16,
 }
 
-// A sample as a number, and 0 where there is none.
-pub fn sample_at(plane: &[f32], i: usize) -> u16 {
-    if i < plane.len() {
-        block::whole(plane[i])
-    } else {
-        0
-    }
-}
-
-fn distance_at(a: &[f32], b: &[f32], i: usize) -> u16 {
-    distance::distance(sample_at(a, i), sample_at(b, i))
-}
-
-fn wide(x: u16) -> u32
-    ensures { result ≤ 65535 }
-{
-    x as u32
-}
-
-fn larger(a: u16, b: u16) -> u16 {
-    if a < b { b } else { a }
-}
-
-fn smaller(a: u16, b: u16) -> u16 {
-    if a < b { a } else { b }
-}
-
 pub fn error_of(original: &[f32], rebuilt: &[f32]) -> PlaneError
     ensures { result.sum ≤ 268431360 }
 {
     let mut largest = 0;
     let mut sum = 0;
-    for i in 0..MOST {
-        let e = distance_at(original, rebuilt, i);
-        largest = larger(largest, e);
-        sum += wide(e);
+    for (a, b) in original.iter().zip(rebuilt).take(MOST) {
+        let e = distance::distance(block::whole(*a), block::whole(*b));
+        largest = largest.max(e);
+        sum += u32::from(e);
     }
     PlaneError { largest, sum }
 }
@@ -62,12 +35,10 @@ pub fn error_of(original: &[f32], rebuilt: &[f32]) -> PlaneError
 pub fn range_of(plane: &[f32]) -> Range {
     let mut least = 65535;
     let mut most = 0;
-    let mut i = 0;
-    while i < plane.len() {
-        let v = sample_at(plane, i);
-        least = smaller(least, v);
-        most = larger(most, v);
-        i += 1;
+    for sample in plane {
+        let v = block::whole(*sample);
+        least = least.min(v);
+        most = most.max(v);
     }
     Range { least, most }
 }

@@ -2,25 +2,12 @@
 // number" (document 02, request (iv)). What text a file has is `page`'s promise. Nothing is printed before the whole file is read and tested.
 #![tactic(auto)]
 
-mod room;
-
-// The page of a file.
-fn show(bytes: &[u8]) {
-    let mut plan = room::plan();
-    let mut text = room::text();
-    let n = plan_page::page(bytes, &mut plan, &mut text);
-    show_streams::print(&text[..n]);
-}
-
-// 65,536 bytes are more than any plan's file has: an input that fills the buffer is refused by 40, whatever follows.
 fn main(rt: HostRuntime) {
-    let mut file = io::large_buffer();
-    let n = show_streams::read(&mut file);
-    if n < 65536 {
-        if !show_streams::is_ended(&rt) {
-            show_streams::tell_unread();
-            return;
-        }
-    }
-    show(&file[..n]);
+    // more bytes than any plan's file has: an input that fills the room is refused by 40, whatever follows
+    let mut file = [0; 65536];
+    // 1,024 rows of 16 words
+    let mut plan = [0; 1024 * 16];
+    // 1,024 lines of 17 numbers, each of at most five digits and with one byte after it
+    let mut text = [0; 1024 * 17 * 6];
+    let _ = show_streams::show(&rt, &mut file, &mut plan, &mut text, plan_page::page);
 }

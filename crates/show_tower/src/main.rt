@@ -3,25 +3,12 @@
 // promise. Nothing is printed before the whole file is read and tested.
 #![tactic(auto)]
 
-mod room;
-
-// The page of a file.
-fn show(bytes: &[u8]) {
-    let mut plan = room::plan();
-    let mut text = room::text();
-    let n = plan_page::tower_page(bytes, &mut plan, &mut text);
-    show_streams::print(&text[..n]);
-}
-
-// An input that fills the room for a file is refused by 40, whatever follows.
 fn main(rt: HostRuntime) {
-    let mut file = room::file();
-    let n = show_streams::read(&mut file);
-    if n < 81920 {
-        if !show_streams::is_ended(&rt) {
-            show_streams::tell_unread();
-            return;
-        }
-    }
-    show(&file[..n]);
+    // 160 blocks, more than any file has: an input that fills the room is refused by 40, whatever follows
+    let mut file = [0; 160 * 512];
+    // 1,024 rows of 32 words
+    let mut plan = [0; 1024 * 32];
+    // 1,024 lines of 33 numbers, each of at most five digits and with one byte after it
+    let mut text = [0; 1024 * 33 * 6];
+    let _ = show_streams::show(&rt, &mut file, &mut plan, &mut text, plan_page::tower_page);
 }

@@ -1,26 +1,21 @@
 // A still's plan is made, run in two orders, and told.
-use crate::room;
 use greymap::Greymap;
 use rebuild::Rebuilt;
+use std::io;
 use still_page::{map, rebuilding};
 
-fn tell_rebuilt(name: &[u8], g: Greymap, r: Rebuilt) {
-    rebuilding::print_rebuilt(name, g, r.answer, r.done, r.equal);
+// The most blocks that a still has.
+const BLOCKS: usize = 64;
+
+fn tell_rebuilt(rt: &impl Print, name: &str, g: Greymap, r: Rebuilt) -> io::Result<()> {
+    rebuilding::print_rebuilt(rt, name, g, r.answer, r.done, r.equal)
 }
 
-// The plan is run row by row and as a wavefront.
-fn tell_runs(original: &[f32], g: Greymap, plan: &[u16], differences: &[i16]) {
-    let rows = rebuild::in_rows(original, g, plan, differences);
-    tell_rebuilt(b"     row by row          ", g, rows);
-    let waves = rebuild::in_waves(original, g, plan, differences);
-    tell_rebuilt(b"     as a wavefront      ", g, waves);
-}
-
-pub fn show(name: &[u8], original: &[f32], g: Greymap) {
-    let mut plan = room::rows();
-    let mut differences = room::differences();
-    let mut taken = room::taken();
-    let mut errors = room::errors();
+pub fn show(rt: &impl Print, name: &str, original: &[f32], g: Greymap) -> io::Result<()> {
+    let mut plan = [0; 16 * BLOCKS];
+    let mut differences = [0; 64 * BLOCKS];
+    let mut taken = [0; BLOCKS];
+    let mut errors = [0; BLOCKS];
     planner::make(
         original,
         g,
@@ -30,7 +25,10 @@ pub fn show(name: &[u8], original: &[f32], g: Greymap) {
         &mut errors,
     );
     let jobs = series::first(&taken, g.jobs());
-    still_page::print_top(name, g, jobs, &errors);
-    tell_runs(original, g, &plan, &differences);
-    map::print_map(g, jobs);
+    still_page::print_top(rt, name, g, jobs, &errors)?;
+    let rows = rebuild::in_rows(original, g, &plan, &differences);
+    tell_rebuilt(rt, "row by row", g, rows)?;
+    let waves = rebuild::in_waves(original, g, &plan, &differences);
+    tell_rebuilt(rt, "as a wavefront", g, waves)?;
+    map::print_map(rt, g, jobs)
 }

@@ -1,20 +1,24 @@
-// What the program `still` prints: its page, part by part, and what is wrong with a file.
+// What the program `still` prints: its page, part by part.
 #![tactic(auto)]
 
-mod counts;
-pub mod fault;
 mod heading;
 mod legend;
 pub mod map;
-pub mod print;
 pub mod rebuilding;
 mod table;
 
 use greymap::Greymap;
+use std::io;
 
 // The page down to the heading of what was rebuilt.
-pub fn print_top(name: &[u8], g: Greymap, taken: &[u8], errors: &[u32]) {
-    heading::print_heading(name, g);
-    table::print_table(taken, errors);
-    rebuilding::print_heading();
+pub fn print_top(
+    rt: &impl Print,
+    name: &str,
+    g: Greymap,
+    taken: &[u8],
+    errors: &[u32],
+) -> io::Result<()> {
+    heading::print_heading(rt, name, g)?;
+    table::print_table(rt, taken, errors)?;
+    rebuilding::print_heading(rt)
 }

@@ -1,24 +1,22 @@
 // The page's map: the letter of the predictor that each block took.
-use crate::{legend, print};
+use crate::legend;
 use greymap::Greymap;
+use std::io;
 
 // The letters of a row of blocks.
-fn print_row(g: Greymap, taken: &[u8], r: u8) {
-    for c in 0..g.across {
-        let k = picture_blocks::index(g.across, c, r) as usize;
-        if k < taken.len() {
-            let letter = [b' ', legend::letter(legend::line_of(taken[k]))];
-            print::say(&letter);
-        }
+fn print_row(rt: &impl Print, row: &[u8]) -> io::Result<()> {
+    print!(rt; "    ")?;
+    for k in row {
+        print!(rt; " {}", legend::letter(*k))?;
     }
-    print::say(b"\n");
+    println!(rt;)
 }
 
 // The map of letters, a line for each row of blocks.
-pub fn print_map(g: Greymap, taken: &[u8]) {
-    print::say(b"\n");
-    for r in 0..g.down {
-        print::say(b"    ");
-        print_row(g, taken, r);
+pub fn print_map(rt: &impl Print, g: Greymap, taken: &[u8]) -> io::Result<()> {
+    println!(rt;)?;
+    for row in taken.chunks(usize::from(g.across.max(1))) {
+        print_row(rt, row)?;
     }
+    Ok(())
 }

@@ -1,19 +1,31 @@
-// The page's table: a line for each predictor.
-use crate::{counts, legend, print};
+// The page's table: a line for each predictor, with how many blocks it was the nearest to, and how far off it was in all of them.
+use crate::legend;
+use crate::legend::LINES;
+use std::io;
 
-fn print_line(taken: &[u8], errors: &[u32], line: u8) {
-    let letter = [b' ', b' ', legend::letter(line), b' ', b' '];
-    print::say(&letter);
-    legend::print_name(line);
-    print::right(counts::blocks_of(taken, line), b"      ");
-    print::right(counts::error_of(taken, errors, line), b"         ");
-    print::say(b"\n");
+// How many blocks took a line's predictor.
+fn blocks_of(taken: &[u8], line: usize) -> usize {
+    taken
+        .iter()
+        .filter(|k| legend::line_of(**k) == line)
+        .count()
 }
 
-// The legend, with how many blocks each predictor was the nearest to, and how far off it was in all of them.
-pub fn print_table(taken: &[u8], errors: &[u32]) {
-    print::say(b"     nearest predictor       blocks    error\n");
-    for line in 0..legend::LINES {
-        print_line(taken, errors, line);
+// The errors of all of them together.
+fn error_of(taken: &[u8], errors: &[u32], line: usize) -> u64 {
+    taken
+        .iter()
+        .zip(errors)
+        .filter(|(k, _)| legend::line_of(**k) == line)
+        .fold(0, |sum, (_, error)| sum.saturating_add(u64::from(*error)))
+}
+
+pub fn print_table(rt: &impl Print, taken: &[u8], errors: &[u32]) -> io::Result<()> {
+    println!(rt; "     nearest predictor       blocks    error")?;
+    for (line, (letter, name)) in LINES.iter().enumerate() {
+        let blocks = blocks_of(taken, line);
+        let error = error_of(taken, errors, line);
+        println!(rt; "  {letter}  {name:<24}{blocks:>6}{error:>9}")?;
     }
+    Ok(())
 }

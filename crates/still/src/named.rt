@@ -1,0 +1,45 @@
+// The file that the program's argument names.
+use std::env::{Env, FillError};
+use std::io::Write;
+use std::{io, str};
+
+// Why no file can be named by the arguments.
+#[derive(Clone, Copy)]
+pub enum NoName<'a> {
+    // there is more than one
+    More,
+    // it is longer than a file's name
+    TooLong,
+    // it is no text
+    NoText(&'a [u8]),
+}
+
+impl NoName<'_> {
+    // One line. What is no text is written as it is.
+    pub fn tell(self, to: &mut impl Write) -> io::Result<()> {
+        match self {
+            NoName::More => writeln!(to, "usage: still [FILE.pgm]"),
+            NoName::TooLong => writeln!(to, "still: File name too long"),
+            NoName::NoText(name) => {
+                to.write_all(name)?;
+                writeln!(to, ": the name is no UTF-8 text")
+            }
+        }
+    }
+}
+
+// The name in the buffer, if there is an argument.
+pub fn name<'a>(rt: &impl Env, buf: &'a mut [u8]) -> Result<Option<&'a str>, NoName<'a>> {
+    let mut more = [0; 1];
+    if !matches!(rt.arg(2, &mut more), Err(FillError::NotPresent)) {
+        return Err(NoName::More);
+    }
+    match rt.arg(1, buf) {
+        Ok(n) => match str::from_utf8(&buf[..n]) {
+            Ok(name) => Ok(Some(name)),
+            Err(_) => Err(NoName::NoText(&buf[..n])),
+        },
+        Err(FillError::TooLong) => Err(NoName::TooLong),
+        Err(FillError::NotPresent) => Ok(None),
+    }
+}
