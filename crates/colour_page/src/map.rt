@@ -1,7 +1,9 @@
 // The map of jobs: a letter for each block of chroma, Cb beside Cr.
-use greymap::Greymap;
+use picture_blocks::Spot;
+use rebuild::Plan;
 use std::io;
-use tower_blocks::row;
+use tower_blocks::plane::Plane;
+use tower_blocks::{PlaneBlock, row};
 
 // The letter of a job's number: P, S, V and H as on a grey still's page; from luma C, A and L.
 fn letter(number: u8) -> char {
@@ -17,11 +19,14 @@ fn letter(number: u8) -> char {
 }
 
 // The letters of a plane's row of blocks.
-fn print_row(rt: &impl Print, g: Greymap, plan: &[u16], plane: u16, r: u8) -> io::Result<()> {
+fn print_row(rt: &impl Print, plan: Plan<'_, 32>, plane: Plane, row: u8) -> io::Result<()> {
     print!(rt; "    ")?;
-    for c in 0..g.across {
-        let job = tower_blocks::job_of(g, plane, picture_blocks::index(g.across, c, r));
-        print!(rt; " {}", letter(row::number_of(plan, job)))?;
+    for column in 0..plan.g.across {
+        let b = PlaneBlock {
+            plane,
+            at: Spot { column, row },
+        };
+        print!(rt; " {}", letter(row::number_of(plan.rows, b.job(plan.g))))?;
     }
     Ok(())
 }
@@ -33,11 +38,11 @@ fn print_legend(rt: &impl Print) -> io::Result<()> {
     println!(rt; "     from luma C at the sample, A above it, L left of it")
 }
 
-pub fn print_map(rt: &impl Print, g: Greymap, plan: &[u16]) -> io::Result<()> {
+pub fn print_map(rt: &impl Print, plan: Plan<'_, 32>) -> io::Result<()> {
     print_legend(rt)?;
-    for r in 0..g.down {
-        print_row(rt, g, plan, 1, r)?;
-        print_row(rt, g, plan, 2, r)?;
+    for row in 0..plan.g.down {
+        print_row(rt, plan, Plane::Cb, row)?;
+        print_row(rt, plan, Plane::Cr, row)?;
         println!(rt;)?;
     }
     Ok(())

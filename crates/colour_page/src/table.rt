@@ -1,20 +1,20 @@
 // The table of planes: a line for each, with how many of its jobs are from luma and how far what they rebuilt is off the original.
-use greymap::Greymap;
 use plane_picture::measure;
-use rebuild::count;
+use rebuild::{Plan, count};
 use std::io;
+use tower_blocks::plane::{Plane, Planes};
 use tower_blocks::row;
-use tower_blocks::row::Number;
 
 pub fn print_heading(rt: &impl Print) -> io::Result<()> {
     println!(rt; "\n     plane      from luma   samples equal   largest error   mean error")
 }
 
 // How many of a plane's jobs are from luma.
-fn count_colour(g: Greymap, plan: &[u16], plane: u16) -> usize {
+fn count_colour(plan: Plan<'_, 32>, plane: Plane) -> usize {
+    let g = plan.g;
     (0..greymap::product(g.across, g.down))
-        .map(|block| row::number_of(plan, tower_blocks::job_of(g, plane, block)))
-        .filter(|number| *number >= Number::FIRST_COLOUR)
+        .map(|block| row::number_of(plan.rows, tower_blocks::job_of(g, plane, block)))
+        .filter(|number| *number >= row::FIRST_COLOUR)
         .count()
 }
 
@@ -28,20 +28,22 @@ fn print_mean(rt: &impl Print, sum: u32, samples: usize) -> io::Result<()> {
     print!(rt; "{:>10}.{:02}", hundredths / 100, hundredths % 100)
 }
 
-// A plane by its name and number, the original's and the rebuilt one.
+// A plane, the original's and the rebuilt one.
 pub fn print_plane(
     rt: &impl Print,
-    name: &str,
-    plane: u16,
-    g: Greymap,
-    plan: &[u16],
-    original: &[f32],
-    rebuilt: &[f32],
+    plane: Plane,
+    plan: Plan<'_, 32>,
+    original: &Planes,
+    rebuilt: &Planes,
 ) -> io::Result<()> {
+    let g = plan.g;
+    let original = original.samples(plane);
+    let rebuilt = rebuilt.samples(plane);
     let error = measure::error_of(original, rebuilt);
     print!(rt;
-        "     {name:<9}{:>5} of {:>2}{:>8} of {:>4}{:>16}",
-        count_colour(g, plan, plane),
+        "     {:<9}{:>5} of {:>2}{:>8} of {:>4}{:>16}",
+        plane.name(),
+        count_colour(plan, plane),
         g.jobs(),
         count::count_equal(original, rebuilt),
         g.area(),

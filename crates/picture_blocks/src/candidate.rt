@@ -32,7 +32,7 @@ impl Candidate {
 }
 
 // What was taken, by its number, and how far it is off the block.
-#[derive(Clone, Copy, Debug, PartialEq, Eq)]
+#[derive(Clone, Copy, Debug, Default, PartialEq, Eq)]
 pub struct Choice {
     pub number: u8,
     pub error: u32,

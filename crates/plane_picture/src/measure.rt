@@ -1,7 +1,7 @@
 // How far a rebuilt plane is off the original's, and the range of a plane's samples.
 ghost use Rattle.std.specs.Prelude.{◌≤◌};
 
-use picture_blocks::{block, distance};
+use picture_blocks::block;
 
 // A plane has so many samples at most.
 const MOST: usize = 4096;
@@ -25,7 +25,7 @@ pub fn error_of(original: &[f32], rebuilt: &[f32]) -> PlaneError
     let mut largest = 0;
     let mut sum = 0;
     for (a, b) in original.iter().zip(rebuilt).take(MOST) {
-        let e = distance::distance(block::whole(*a), block::whole(*b));
+        let e = block::whole(*a).abs_diff(block::whole(*b));
         largest = largest.max(e);
         sum += u32::from(e);
     }

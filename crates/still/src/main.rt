@@ -13,6 +13,7 @@ use greymap::still::{Still, StillFault};
 use std::fs::{File, Files};
 use std::io;
 use std::io::Read;
+use tower_blocks::plane::Planes;
 
 // The most samples that a plane has.
 const SAMPLES: usize = 4096;
@@ -39,15 +40,7 @@ fn show_open<R: Print + Eprint, F: Read>(rt: &R, name: &str, file: &mut F) -> io
     let mut cr = [0.0; SAMPLES];
     match load(file, &mut luma, &mut cb, &mut cr) {
         Ok(Still::Grey(g)) => show::show(rt, name, series::first(&luma, g.area()), g),
-        Ok(Still::Colour(g)) => {
-            let n = g.area();
-            let planes = [
-                series::first(&luma, n),
-                series::first(&cb, n),
-                series::first(&cr, n),
-            ];
-            colour_still::show(rt, name, planes, g)
-        }
+        Ok(Still::Colour(g)) => colour_still::show(rt, name, &Planes { g, luma, cb, cr }),
         Err(why) => eprintln!(rt; "{name}: {why}"),
     }
 }

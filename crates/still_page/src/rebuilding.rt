@@ -1,6 +1,7 @@
 // What came of the picture rebuilt from nothing: a line for each order.
 use greymap::Greymap;
-use numbers::answer;
+use numbers::answer::Answer;
+use rebuild::Rebuilt;
 use std::io;
 
 pub fn print_heading(rt: &impl Print) -> io::Result<()> {
@@ -8,27 +9,22 @@ pub fn print_heading(rt: &impl Print) -> io::Result<()> {
 }
 
 // A refusal of the whole run, if it is one.
-pub fn print_refusal(rt: &impl Print, answer: u32) -> io::Result<()> {
-    if answer == answer::DONE {
-        return Ok(());
+pub fn print_refusal(rt: &impl Print, answer: Answer) -> io::Result<()> {
+    match answer {
+        Ok(()) => Ok(()),
+        Err(refusal) => print!(rt; "  refused with {}", refusal.number()),
     }
-    print!(rt; "  refused with {answer}")
 }
 
-// What a run in an order, by its name, gave: its answer's number, how many jobs it did, and how many samples equal the original's.
-pub fn print_rebuilt(
-    rt: &impl Print,
-    name: &str,
-    g: Greymap,
-    answer: u32,
-    done: usize,
-    equal: usize,
-) -> io::Result<()> {
+// What a run in an order, by its name, gave.
+pub fn print_rebuilt(rt: &impl Print, name: &str, g: Greymap, run: Rebuilt) -> io::Result<()> {
     print!(rt;
-        "     {name:<20}{done:>8} of {:>2}{equal:>8} of {:>4}",
+        "     {name:<20}{:>8} of {:>2}{:>8} of {:>4}",
+        run.done,
         g.jobs(),
+        run.equal,
         g.area()
     )?;
-    print_refusal(rt, answer)?;
+    print_refusal(rt, run.answer)?;
     println!(rt;)
 }

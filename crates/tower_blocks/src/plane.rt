@@ -19,6 +19,14 @@ impl Plane {
     pub fn number(self) -> u16 {
         self as u16
     }
+
+    pub fn name(self) -> &'static str {
+        match self {
+            Plane::Luma => "luma",
+            Plane::Cb => "Cb",
+            Plane::Cr => "Cr",
+        }
+    }
 }
 
 // Each plane's samples stand in the first places of its room.

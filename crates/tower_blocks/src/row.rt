@@ -32,8 +32,11 @@ pub fn put_row(g: Greymap, b: PlaneBlock, number: u8, rows: &mut [[u16; 32]]) {
     picture_blocks::put(rows, b.job(g), planned(g, b, number));
 }
 
-// The number of the job that a row is of.
-pub fn number_of(row: &[u16; 32]) -> u8 {
+// The number of a job of a plan, and 0 where there is none.
+pub fn number_of(rows: &[[u16; 32]], job: u16) -> u8 {
+    let Some(row) = rows.get(usize::from(job)) else {
+        return 0;
+    };
     if row[4] == ColourMode::NUMBER {
         (row[17] % 3) as u8 + FIRST_COLOUR
     } else {
