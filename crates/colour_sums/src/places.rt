@@ -1,6 +1,6 @@
 // "Each reference sample that counts (index 1 to dimension - 2, and inside the above or left lines)" (document 01, Colour parameters): whole rows
 // inside the above lines, then the first columns of the rows below them. Places that cannot count are not visited.
-ghost use Rattle.std.specs.Prelude.{◌≡◌, ◌≤◌, ◌⊎◌};
+ghost use Rattle.std.specs.Prelude.{◌≡◌, ◌≤◌};
 ghost use Rattle.colour_terms.specs.Reference.{most_lines};
 ghost use Rattle.colour_samples.specs.Way.{behind};
 ghost use Rattle.colour_sums.specs.Places.{rows_above, few};
@@ -76,17 +76,5 @@ pub fn below_columns(w: Window) -> Lines
         apart: l.step,
         places: l.lines,
         step: l.apart,
-    }
-}
-
-// The same by columns where these are few, so that a line is long.
-pub fn below(w: Window) -> Lines
-    requires { w.ref_height ≤ most_lines }
-    ensures { (result ≡ below_rows w) ⊎ (result ≡ below_columns w) }
-{
-    if few(w) < Window::FEW {
-        below_columns(w)
-    } else {
-        below_rows(w)
     }
 }

@@ -1,14 +1,15 @@
 // A reference window: how many of its places count, and the nine sums over them (document 01, Colour parameters).
-ghost use Rattle.std.specs.Prelude.{◌≡◌, ◌≤◌, ◌⊎◌};
+ghost use Rattle.std.specs.Prelude.{◌≡◌, cond, ◌≤◌};
+ghost use Rattle.numbers.specs.Depth.{most};
 ghost use Rattle.colour_terms.specs.Terms.{entry};
 ghost use Rattle.colour_terms.specs.Reference.{most_lines};
 ghost use Rattle.colour_samples.specs.Took.{empty};
+ghost use Rattle.colour_samples.specs.Way.{all_in};
 ghost use Rattle.colour_sums.specs.Sum.{Laid, count_of, gathered};
-ghost use Rattle.colour_sums.specs.AsLines.{TookAll, below_rows, below_columns};
 
 use crate::places;
 use colour_lines::lines;
-use colour_lines::lines::{Lines, Tally};
+use colour_lines::lines::Tally;
 use colour_lines::long::LongTotals;
 use colour_samples::nine::Nine;
 use colour_samples::sample::DepthTerms;
@@ -26,7 +27,7 @@ pub struct Window {
 
 impl Window {
     // Fewer places or columns than these are too few for the fast way.
-    pub const FEW: usize = 4;
+    const FEW: usize = 4;
 }
 
 // How many places count.
@@ -39,28 +40,45 @@ pub fn count_of(w: Window) -> usize
         + (w.ref_height.saturating_sub(2) - above) * places::few(w)
 }
 
-// All places, into totals t of none: those inside the above lines, and those below them, by rows or by columns.
+// What totals give: their sums, or none where something that was seen is not in range.
+fn gathered_of(g: Totals, depth: DepthTerms) -> Option<Nine>
+    ensures { result ≡ cond (all_in (most depth.d) g.seen) (Some g.sums) None }
+{
+    let seen = g.seen;
+    if seen.is_in_range(depth) {
+        Some(g.sums)
+    } else {
+        None
+    }
+}
+
+// All places, into totals t of none: those inside the above lines, and those below them, by columns or by rows.
 fn gather_by<T: Tally>(
     t: T,
     luma: &[i32],
     chroma: &[i32],
     w: Window,
-    below: Lines,
+    columns: bool,
     direction: ColourDirection,
     depth: DepthTerms,
-) -> Totals
+) -> Option<Nine>
     requires laid { Laid w luma.now chroma.now }
     requires nothing { T.stands_for depth.d t ≡ empty }
-    requires below_is { (below ≡ below_rows w) ⊎ (below ≡ below_columns w) }
-    ensures { TookAll depth.d direction (entry luma.now) (entry chroma.now) w result }
+    ensures { result ≡ gathered depth.d direction (entry luma.now) (entry chroma.now) w }
 {
     let back = places::behind(direction);
     let above = lines::take(t, luma, chroma, places::above_rows(w), back, depth);
-    lines::take(above, luma, chroma, below, back, depth).totals(depth)
+    if columns {
+        let all = lines::take(above, luma, chroma, places::below_columns(w), back, depth);
+        gathered_of(all.totals(depth), depth)
+    } else {
+        let all = lines::take(above, luma, chroma, places::below_rows(w), back, depth);
+        gathered_of(all.totals(depth), depth)
+    }
 }
 
 // The nine sums over the places that count, or none where something that the direction's rule needs there is not in range. n, how many count, only picks
-// the way: place by place, or the fast way.
+// the way: place by place, or the fast way, below the above lines by columns where these are few, so that a line is long.
 pub fn gather(
     luma: &[i32],
     chroma: &[i32],
@@ -72,17 +90,12 @@ pub fn gather(
     requires { Laid w luma.now chroma.now }
     ensures { result ≡ gathered depth.d direction (entry luma.now) (entry chroma.now) w }
 {
-    let g = if n < Window::FEW {
+    if n < Window::FEW {
         let t = Totals::new();
-        gather_by(t, luma, chroma, w, places::below_rows(w), direction, depth)
+        gather_by(t, luma, chroma, w, false, direction, depth)
     } else {
         let t = LongTotals::new();
-        gather_by(t, luma, chroma, w, places::below(w), direction, depth)
-    };
-    let seen = g.seen;
-    if seen.is_in_range(depth) {
-        Some(g.sums)
-    } else {
-        None
+        let columns = places::few(w) < Window::FEW;
+        gather_by(t, luma, chroma, w, columns, direction, depth)
     }
 }

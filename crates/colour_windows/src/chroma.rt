@@ -31,10 +31,8 @@ pub fn chroma_read(chroma: &[f32], width: usize, c: ColourWords, m: i32) -> bool
     ensures { result ≡ chroma_read width c chroma.now }
 {
     let w = c.window();
-    if !part_read(chroma, width, c, places::above_in(w), m) {
-        return false;
-    }
-    part_read(chroma, width, c, places::below_in(w), m)
+    part_read(chroma, width, c, places::above_in(w), m)
+        && part_read(chroma, width, c, places::below_in(w), m)
 }
 
 // A rectangle of the window, read into the list.

@@ -33,7 +33,7 @@ pub fn above_in(w: Window) -> Patch
     Patch {
         x: 1,
         y: 1,
-        w: places::monus(w.ref_width, 2),
+        w: w.ref_width.saturating_sub(2),
         h: places::rows_above(w),
     }
 }
@@ -48,7 +48,7 @@ pub fn below_in(w: Window) -> Patch
         x: 1,
         y: 1 + above,
         w: places::few(w),
-        h: places::monus(w.ref_height, 2) - above,
+        h: w.ref_height.saturating_sub(2) - above,
     }
 }
 

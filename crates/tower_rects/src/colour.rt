@@ -45,7 +45,7 @@ fn counted_above(c: ColourWords) -> Rect
     Rect {
         x: c.x as usize - c.left_lines as usize + 1,
         y: c.y as usize - c.above_lines as usize + 1,
-        w: places::monus(w.ref_width, 2),
+        w: w.ref_width.saturating_sub(2),
         h: places::rows_above(w),
     }
 }
@@ -57,12 +57,12 @@ fn counted_beside(c: ColourWords) -> Rect
 {
     let w = c.window();
     let above = places::rows_above(w);
-    let high = places::monus(w.ref_height, 2);
+    let high = w.ref_height.saturating_sub(2);
     Rect {
         x: c.x as usize - c.left_lines as usize + 1,
         y: c.y as usize - c.above_lines as usize + 1 + above,
         w: places::few(w),
-        h: places::monus(high, above),
+        h: high.saturating_sub(above),
     }
 }
 

@@ -8,6 +8,6 @@ pub returns : goal.returns
 returns c =
     let w = c.window-w.ensures in
     let s = c.args.c in
-    let across = c.monus.ensures ∙ ap wide w in
+    let across = c.saturating_sub.ensures ∙ ap wide w in
     let down = c.rows_above.ensures ∙ ap rows_above w in
     λ j. record { x = s.x - s.left_lines + 1; y = s.y - s.above_lines + 1; w = across j; h = down j }

@@ -14,7 +14,7 @@ returns c =
     let w = c.window-w.ensures in
     let s = c.args.c in
     let above = c.rows_above-above.ensures ∙ ap rows_above w in
-    let all = c.monus-high.ensures ∙ ap high w in
+    let all = c.saturating_sub-high.ensures ∙ ap high w in
     let across = c.few.ensures ∙ ap few w in
-    let down = c.monus.ensures ∙ (λ j. all j - above j) in
+    let down = c.saturating_sub.ensures ∙ (λ j. all j - above j) in
     λ j. record { x = s.x - s.left_lines + 1; y = s.y - s.above_lines + 1 + above j; w = across j; h = down j }
