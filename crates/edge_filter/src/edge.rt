@@ -1,5 +1,5 @@
 // An edge as a list that starts four entries early and ends with its last entry repeated, as it is or filtered (document 01, Directions). Entries are
-// copied one by one: with `copy_from_slice`, which calls C's memcpy, a filtered edge takes 2 to 10 % longer.
+// copied one by one: with `copy_from_slice`, which calls C's memcpy, a filtered edge takes up to 15 % longer.
 ghost use Rattle.std.specs.Prelude.{◌≡◌, true, ◌≤◌, ◌<◌, ◌+◌, length, pos};
 ghost use Rattle.signed.specs.Range.{inside, Edge};
 ghost use Rattle.lists.specs.Fill.{tab, filled};
