@@ -12,7 +12,7 @@ pub enum WordFault {
 }
 
 // Space, tab, line feed, vertical tab, form feed, carriage return.
-fn is_blank(b: u8) -> bool {
+pub fn is_blank(b: u8) -> bool {
     matches!(b, b' ' | 9..=13)
 }
 
@@ -37,24 +37,30 @@ pub fn is_end(b: u8) -> bool {
     b == b'#' || is_blank(b)
 }
 
-// The word at the front as a number that is at most `most`, and the text after it.
+// The word at the front as a number that is at most `most`, and the text after it. What is wrong is told at its first byte, however long the word is.
 pub fn number(s: &[u8], most: u32) -> Result<(u32, &[u8]), WordFault>
     ensures { IfOk result (λ r. r.0 ≤ most) }
 {
     if s.is_empty() {
         return Err(WordFault::Nothing);
     }
-    let (word, rest) = split_before(s, is_end);
-    if word.is_empty() {
-        return Err(WordFault::NoNumber);
-    }
     let mut n = 0u64;
-    for b in word {
-        let d = char::from(*b).to_digit(10).ok_or(WordFault::NoNumber)?;
-        n = n * 10 + u64::from(d);
+    let mut end = s.len();
+    for (i, b) in s.iter().enumerate() {
+        if is_end(*b) {
+            end = i;
+            break;
+        }
+        if !b.is_ascii_digit() {
+            return Err(WordFault::NoNumber);
+        }
+        n = n * 10 + u64::from(*b - b'0');
         if n > u64::from(most) {
             return Err(WordFault::TooLarge);
         }
     }
-    Ok((n as u32, rest))
+    if end == 0 {
+        return Err(WordFault::NoNumber);
+    }
+    Ok((n as u32, &s[end..]))
 }
