@@ -9,5 +9,5 @@ fn main(rt: HostRuntime) {
     let mut plan = [0; 1024 * 16];
     // 1,024 lines of 17 numbers, each of at most five digits and with one byte after it
     let mut text = [0; 1024 * 17 * 6];
-    let _ = show_streams::show(&rt, &mut file, &mut plan, &mut text, plan_page::page);
+    show_streams::show(&rt, &mut file, &mut plan, &mut text, plan_page::page);
 }

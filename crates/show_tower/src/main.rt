@@ -10,5 +10,5 @@ fn main(rt: HostRuntime) {
     let mut plan = [0; 1024 * 32];
     // 1,024 lines of 33 numbers, each of at most five digits and with one byte after it
     let mut text = [0; 1024 * 33 * 6];
-    let _ = show_streams::show(&rt, &mut file, &mut plan, &mut text, plan_page::tower_page);
+    show_streams::show(&rt, &mut file, &mut plan, &mut text, plan_page::tower_page);
 }
