@@ -1,4 +1,4 @@
-// What the program `still` prints of a colour still, part by part.
+// What the program `still` prints of a colour still, part by part. Where a write fails, the page goes on with what follows.
 #![tactic(auto)]
 
 pub mod map;
@@ -6,15 +6,14 @@ pub mod runs;
 pub mod table;
 
 use greymap::Greymap;
-use std::io;
 
-pub fn print_heading(rt: &impl Print, name: &str, g: Greymap) -> io::Result<()> {
-    println!(rt; "Colour still {name}")?;
-    println!(rt;
+pub fn print_heading(rt: &impl Print, name: &str, g: Greymap) {
+    let _ = println!(rt; "Colour still {name}");
+    let _ = println!(rt;
         "{} x {} samples of {} bits in three planes, {} blocks of 8 x 8\n",
         g.width(),
         g.height(),
         g.d,
         tower_blocks::jobs(g)
-    )
+    );
 }

@@ -1,7 +1,6 @@
 // The map of jobs: a letter for each block of chroma, Cb beside Cr.
 use picture_blocks::Spot;
 use rebuild::Plan;
-use std::io;
 use tower_blocks::plane::Plane;
 use tower_blocks::{PlaneBlock, row};
 
@@ -19,31 +18,29 @@ fn letter(number: u8) -> char {
 }
 
 // The letters of a plane's row of blocks.
-fn print_row(rt: &impl Print, plan: Plan<'_, 32>, plane: Plane, row: u8) -> io::Result<()> {
-    print!(rt; "    ")?;
+fn print_row(rt: &impl Print, plan: Plan<'_, 32>, plane: Plane, row: u8) {
+    let _ = print!(rt; "    ");
     for column in 0..plan.g.across {
         let b = PlaneBlock {
             plane,
             at: Spot { column, row },
         };
-        print!(rt; " {}", letter(row::number_of(plan.rows, b.job(plan.g))))?;
+        let _ = print!(rt; " {}", letter(row::number_of(plan.rows, b.job(plan.g))));
     }
-    Ok(())
 }
 
-fn print_legend(rt: &impl Print) -> io::Result<()> {
-    println!(rt;
+fn print_legend(rt: &impl Print) {
+    let _ = println!(rt;
         "\n     jobs of Cb, and of Cr: with differences P Paeth, S smooth, V smooth_v, H smooth_h;"
-    )?;
-    println!(rt; "     from luma C at the sample, A above it, L left of it")
+    );
+    let _ = println!(rt; "     from luma C at the sample, A above it, L left of it");
 }
 
-pub fn print_map(rt: &impl Print, plan: Plan<'_, 32>) -> io::Result<()> {
-    print_legend(rt)?;
+pub fn print_map(rt: &impl Print, plan: Plan<'_, 32>) {
+    print_legend(rt);
     for row in 0..plan.g.down {
-        print_row(rt, plan, Plane::Cb, row)?;
-        print_row(rt, plan, Plane::Cr, row)?;
-        println!(rt;)?;
+        print_row(rt, plan, Plane::Cb, row);
+        print_row(rt, plan, Plane::Cr, row);
+        let _ = println!(rt;);
     }
-    Ok(())
 }

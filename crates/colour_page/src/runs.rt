@@ -1,49 +1,47 @@
 // What came of the planes rebuilt from nothing: a line for each order, and one for each job that was refused.
 use numbers::answer::DONE;
-use std::io;
 use still_page::rebuilding;
 use tower_rebuild::Rebuilt;
 
-pub fn print_heading(rt: &impl Print) -> io::Result<()> {
-    println!(rt; "     rebuilt from nothing     jobs done")
+pub fn print_heading(rt: &impl Print) {
+    let _ = println!(rt; "     rebuilt from nothing     jobs done");
 }
 
 // What a run in an order, by its name, gave.
-fn print_run(rt: &impl Print, name: &str, run: &Rebuilt) -> io::Result<()> {
+fn print_run(rt: &impl Print, name: &str, run: &Rebuilt) {
     let all = tower_blocks::jobs(run.planes.g);
-    print!(rt; "     {name:<20}{:>8} of {all}", run.done())?;
-    rebuilding::print_refusal(rt, run.answer)
+    let _ = print!(rt; "     {name:<20}{:>8} of {all}", run.done());
+    rebuilding::print_refusal(rt, run.answer);
 }
 
-pub fn print_first(rt: &impl Print, run: &Rebuilt) -> io::Result<()> {
-    print_run(rt, "plane by plane", run)?;
-    println!(rt;)
+pub fn print_first(rt: &impl Print, run: &Rebuilt) {
+    print_run(rt, "plane by plane", run);
+    let _ = println!(rt;);
 }
 
 // The second run, held against the first.
-pub fn print_second(rt: &impl Print, run: &Rebuilt, first: &Rebuilt) -> io::Result<()> {
-    print_run(rt, "as a wavefront", run)?;
-    match run.others(first) {
+pub fn print_second(rt: &impl Print, run: &Rebuilt, first: &Rebuilt) {
+    print_run(rt, "as a wavefront", run);
+    let _ = match run.others(first) {
         0 => println!(rt; "   the same"),
         others => println!(rt; "   {others} samples differ"),
-    }
+    };
 }
 
 // A refused job: its index, its answer's number and its row.
-fn print_job(rt: &impl Print, job: usize, answer: u16, row: &[u16; 32]) -> io::Result<()> {
-    print!(rt; "     job {job} refused with {answer}:")?;
+fn print_job(rt: &impl Print, job: usize, answer: u16, row: &[u16; 32]) {
+    let _ = print!(rt; "     job {job} refused with {answer}:");
     for word in row {
-        print!(rt; " {word}")?;
+        let _ = print!(rt; " {word}");
     }
-    println!(rt;)
+    let _ = println!(rt;);
 }
 
 // The jobs that a run refused.
-pub fn print_refused(rt: &impl Print, rows: &[[u16; 32]], answers: &[u16]) -> io::Result<()> {
+pub fn print_refused(rt: &impl Print, rows: &[[u16; 32]], answers: &[u16]) {
     for (job, (row, answer)) in rows.iter().zip(answers).enumerate() {
         if u32::from(*answer) != DONE {
-            print_job(rt, job, *answer, row)?;
+            print_job(rt, job, *answer, row);
         }
     }
-    Ok(())
 }

@@ -1,12 +1,13 @@
 // The table of planes: a line for each, with how many of its jobs are from luma and how far what they rebuilt is off the original.
 use plane_picture::measure;
 use rebuild::{Plan, count};
-use std::io;
 use tower_blocks::plane::{Plane, Planes};
 use tower_blocks::row;
 
-pub fn print_heading(rt: &impl Print) -> io::Result<()> {
-    println!(rt; "\n     plane      from luma   samples equal   largest error   mean error")
+pub fn print_heading(rt: &impl Print) {
+    let _ = println!(rt;
+        "\n     plane      from luma   samples equal   largest error   mean error"
+    );
 }
 
 // How many of a plane's jobs are from luma.
@@ -19,13 +20,13 @@ fn count_colour(plan: Plan<'_, 32>, plane: Plane) -> usize {
 }
 
 // A sum's part of so many samples, with two digits after the point, the last rounded.
-fn print_mean(rt: &impl Print, sum: u32, samples: usize) -> io::Result<()> {
+fn print_mean(rt: &impl Print, sum: u32, samples: usize) {
     if samples == 0 {
-        return Ok(());
+        return;
     }
     let samples = samples as u64;
     let hundredths = (100 * u64::from(sum) + samples / 2) / samples;
-    print!(rt; "{:>10}.{:02}", hundredths / 100, hundredths % 100)
+    let _ = print!(rt; "{:>10}.{:02}", hundredths / 100, hundredths % 100);
 }
 
 // A plane, the original's and the rebuilt one.
@@ -35,12 +36,12 @@ pub fn print_plane(
     plan: Plan<'_, 32>,
     original: &Planes,
     rebuilt: &Planes,
-) -> io::Result<()> {
+) {
     let g = plan.g;
     let original = original.samples(plane);
     let rebuilt = rebuilt.samples(plane);
     let error = measure::error_of(original, rebuilt);
-    print!(rt;
+    let _ = print!(rt;
         "     {:<9}{:>5} of {:>2}{:>8} of {:>4}{:>16}",
         plane.name(),
         count_colour(plan, plane),
@@ -48,7 +49,7 @@ pub fn print_plane(
         count::count_equal(original, rebuilt),
         g.area(),
         error.largest
-    )?;
-    print_mean(rt, error.sum, g.area())?;
-    println!(rt;)
+    );
+    print_mean(rt, error.sum, g.area());
+    let _ = println!(rt;);
 }

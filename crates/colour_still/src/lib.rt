@@ -3,34 +3,32 @@
 
 use colour_page::{map, runs, table};
 use rebuild::Plan;
-use std::io;
 use tower_blocks::plane::{Plane, Planes};
 
 // The most blocks that a colour still has, of three planes.
 const BLOCKS: usize = 192;
 
 // Both runs of the plan, the first one's jobs that were refused, and what it rebuilt.
-fn tell(rt: &impl Print, plan: Plan<'_, 32>, original: &Planes) -> io::Result<()> {
-    runs::print_heading(rt)?;
+fn tell(rt: &impl Print, plan: Plan<'_, 32>, original: &Planes) {
+    runs::print_heading(rt);
     let first = tower_rebuild::in_planes(plan);
-    runs::print_first(rt, &first)?;
+    runs::print_first(rt, &first);
     if first.answer.is_ok() {
-        runs::print_refused(rt, plan.rows, first.answers())?;
+        runs::print_refused(rt, plan.rows, first.answers());
     }
     let second = tower_rebuild::in_waves(plan);
-    runs::print_second(rt, &second, &first)?;
-    table::print_heading(rt)?;
+    runs::print_second(rt, &second, &first);
+    table::print_heading(rt);
     for plane in Plane::ALL {
-        table::print_plane(rt, plane, plan, original, &first.planes)?;
+        table::print_plane(rt, plane, plan, original, &first.planes);
     }
     for plane in [Plane::Cb, Plane::Cr] {
         let (original, rebuilt) = (original.samples(plane), first.planes.samples(plane));
-        plane_picture::print_picture(rt, plane.name(), plan.g, original, rebuilt)?;
+        plane_picture::print_picture(rt, plane.name(), plan.g, original, rebuilt);
     }
-    Ok(())
 }
 
-pub fn show(rt: &impl Print, name: &str, original: &Planes) -> io::Result<()> {
+pub fn show(rt: &impl Print, name: &str, original: &Planes) {
     let g = original.g;
     let mut rows = [[0; 32]; BLOCKS];
     let mut differences = [[0; 64]; BLOCKS];
@@ -40,7 +38,7 @@ pub fn show(rt: &impl Print, name: &str, original: &Planes) -> io::Result<()> {
         rows: series::first(&rows, tower_blocks::jobs(g)),
         differences: &differences,
     };
-    colour_page::print_heading(rt, name, g)?;
-    tell(rt, plan, original)?;
-    map::print_map(rt, plan)
+    colour_page::print_heading(rt, name, g);
+    tell(rt, plan, original);
+    map::print_map(rt, plan);
 }

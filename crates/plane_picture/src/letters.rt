@@ -1,6 +1,6 @@
 // A plane's samples as letters, each for two, one under the other, since it is about twice as high as it is wide.
+use crate::measure;
 use crate::measure::Range;
-use picture_blocks::block;
 use std::fmt;
 
 const RAMP: [char; 10] = [' ', '.', ':', '-', '=', '+', '*', '#', '%', '@'];
@@ -19,18 +19,23 @@ fn letter(value: u16, range: Range) -> char {
     RAMP[level.min(9) as usize]
 }
 
-// A row of samples and the row under it.
+// A row of samples of a plane, from a place on, and the row under it: of at most 64 columns.
 #[derive(Clone, Copy)]
 pub struct Letters<'a> {
-    pub upper: &'a [f32],
-    pub lower: &'a [f32],
+    pub plane: &'a [f32],
+    pub from: usize,
+    pub width: usize,
     pub range: Range,
 }
 
 impl fmt::Display for Letters<'_> {
     fn fmt<W: fmt::Write>(&self, f: &mut fmt::Formatter<W>) -> fmt::Result {
-        for (a, b) in self.upper.iter().zip(self.lower) {
-            let value = block::whole(*a).midpoint(block::whole(*b));
+        for x in 0..self.width.min(64) {
+            let upper = self.from.saturating_add(x);
+            let lower = upper.saturating_add(self.width);
+            let value = measure::sample_at(self.plane, upper).midpoint(measure::sample_at(
+                self.plane, lower,
+            ));
             f.write_char(letter(value, self.range))?;
         }
         Ok(())

@@ -11,7 +11,6 @@ use greymap::fault::Fault;
 use greymap::still;
 use greymap::still::{Still, StillFault};
 use std::fs::{File, Files};
-use std::io;
 use std::io::Read;
 use tower_blocks::plane::Planes;
 
@@ -34,23 +33,25 @@ fn load<R: Read>(
 }
 
 // What an open file has, or what is wrong with it.
-fn show_open<R: Print + Eprint, F: Read>(rt: &R, name: &str, file: &mut F) -> io::Result<()> {
+fn show_open<R: Print + Eprint, F: Read>(rt: &R, name: &str, file: &mut F) {
     let mut luma = [0.0; SAMPLES];
     let mut cb = [0.0; SAMPLES];
     let mut cr = [0.0; SAMPLES];
     match load(file, &mut luma, &mut cb, &mut cr) {
         Ok(Still::Grey(g)) => show::show(rt, name, series::first(&luma, g.area()), g),
         Ok(Still::Colour(g)) => colour_still::show(rt, name, &Planes { g, luma, cb, cr }),
-        Err(why) => eprintln!(rt; "{name}: {why}"),
+        Err(why) => {
+            let _ = eprintln!(rt; "{name}: {why}");
+        }
     }
 }
 
-// What a file has. A page that cannot be written ends there, and nothing is told of it.
+// What a file has. Nothing is told of a write that fails.
 fn show_file<R: Files + Print + Eprint>(rt: &R, name: &str) {
-    let _ = match File::open(rt, name) {
+    match File::open(rt, name) {
         Ok(mut file) => show_open(rt, name, &mut file),
         Err(error) => unopened::tell(rt, name, error),
-    };
+    }
 }
 
 // The one file that is named, or those that ship.
@@ -63,8 +64,6 @@ fn main(rt: HostRuntime) {
             let _ = println!(rt;);
             show_file(&rt, "helmets.pgm");
         }
-        Err(why) => {
-            let _ = why.tell(&mut rt.stderr());
-        }
+        Err(why) => why.tell(&mut rt.stderr()),
     }
 }

@@ -1,7 +1,7 @@
 // The file that the program's argument names.
 use std::env::{Env, FillError};
 use std::io::Write;
-use std::{io, str};
+use std::str;
 
 // Why no file can be named by the arguments.
 #[derive(Clone, Copy)]
@@ -16,15 +16,15 @@ pub enum NoName<'a> {
 
 impl NoName<'_> {
     // One line. What is no text is written as it is.
-    pub fn tell(self, to: &mut impl Write) -> io::Result<()> {
-        match self {
+    pub fn tell(self, to: &mut impl Write) {
+        let _ = match self {
             NoName::More => writeln!(to, "usage: still [FILE.pgm]"),
             NoName::TooLong => writeln!(to, "still: File name too long"),
             NoName::NoText(name) => {
-                to.write_all(name)?;
+                let _ = to.write_all(name);
                 writeln!(to, ": the name is no UTF-8 text")
             }
-        }
+        };
     }
 }
 

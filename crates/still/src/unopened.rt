@@ -11,8 +11,8 @@ fn without_number(text: &str) -> &str {
     }
 }
 
-pub fn tell(rt: &impl Eprint, name: &str, error: io::Error) -> io::Result<()> {
+pub fn tell(rt: &impl Eprint, name: &str, error: io::Error) {
     let mut text = ArrayString::<320>::new();
     let _ = write!(text, "{error}");
-    eprintln!(rt; "{name}: {}", without_number(text.as_str()))
+    let _ = eprintln!(rt; "{name}: {}", without_number(text.as_str()));
 }

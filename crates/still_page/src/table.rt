@@ -1,14 +1,22 @@
 // The page's table: a line for each predictor, with how many blocks it was the nearest to, and how far off it was in all of them.
 use crate::legend;
 use crate::legend::LINES;
-use picture_blocks::candidate::Choice;
-use std::io;
+use picture_blocks::candidate::{Candidate, Choice};
 
-// How many blocks took a line's predictor.
+// The most blocks that a still has.
+const BLOCKS: usize = 64;
+
+// Whether a block took a line's predictor.
+fn is_of(choice: &Choice, line: usize) -> bool {
+    choice.number < Candidate::COUNT && legend::line_of(choice.number) == line
+}
+
+// How many blocks took it.
 fn blocks_of(choices: &[Choice], line: usize) -> usize {
     choices
         .iter()
-        .filter(|choice| legend::line_of(choice.number) == line)
+        .take(BLOCKS)
+        .filter(|choice| is_of(choice, line))
         .count()
 }
 
@@ -16,16 +24,16 @@ fn blocks_of(choices: &[Choice], line: usize) -> usize {
 fn error_of(choices: &[Choice], line: usize) -> u64 {
     choices
         .iter()
-        .filter(|choice| legend::line_of(choice.number) == line)
+        .take(BLOCKS)
+        .filter(|choice| is_of(choice, line))
         .fold(0, |sum, choice| sum.saturating_add(u64::from(choice.error)))
 }
 
-pub fn print_table(rt: &impl Print, choices: &[Choice]) -> io::Result<()> {
-    println!(rt; "     nearest predictor       blocks    error")?;
+pub fn print_table(rt: &impl Print, choices: &[Choice]) {
+    let _ = println!(rt; "     nearest predictor       blocks    error");
     for (line, (letter, name)) in LINES.iter().enumerate() {
         let blocks = blocks_of(choices, line);
         let error = error_of(choices, line);
-        println!(rt; "  {letter}  {name:<24}{blocks:>6}{error:>9}")?;
+        let _ = println!(rt; "  {letter}  {name:<24}{blocks:>6}{error:>9}");
     }
-    Ok(())
 }
