@@ -10,7 +10,13 @@ pub fn error_of(out: &[f32; 64], block: &[u16; 64]) -> u32 {
         .fold(0, u32::saturating_add)
 }
 
-// The block's differences from a prediction; samples are so small that none wraps.
+// b - a, as a difference has it; samples are so small that none is cut.
+fn minus(a: u16, b: u16) -> i16 {
+    let difference = i32::from(b) - i32::from(a);
+    difference.clamp(-32768, 32767) as i16
+}
+
+// The block's differences from a prediction.
 pub fn differences_of(out: &[f32; 64], block: &[u16; 64]) -> [i16; 64] {
-    array::from_fn(|i| block[i].wrapping_sub(block::whole(out[i])).cast_signed())
+    array::from_fn(|i| minus(block::whole(out[i]), block[i]))
 }
