@@ -24,7 +24,10 @@ impl LongTotals {
     pub fn new() -> LongTotals
         ensures { result ≡ record { seen = unseen; sums = no_place } }
     {
-        LongTotals::default()
+        LongTotals {
+            seen: Seen::new(),
+            sums: LongSums::default(),
+        }
     }
 }
 

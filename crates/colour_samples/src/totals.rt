@@ -19,7 +19,10 @@ impl Totals {
     pub fn new() -> Totals
         ensures { result ≡ empty }
     {
-        Totals::default()
+        Totals {
+            seen: Seen::new(),
+            sums: Nine::new(),
+        }
     }
 
     // One sample more.
