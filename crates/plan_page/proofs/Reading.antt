@@ -1,10 +1,10 @@
 -- What reading a file with room for every plan left in the lists that it was lent. Assumes nothing.
 use mathlib.Core.Path.{◌≡◌, refl, sym, ◌∙◌, ap}
 use mathlib.Core.Bool.{Bool, true, false, cond}
-use mathlib.Core.List.{List}
+use mathlib.Core.List.{List, ◌++◌}
 use Prim.Native.Nat.{ℕ, ◌*◌, ◌≤◌}
 use native.Mathlib.Omega.{arith}
-use lib.ListN.{length, take, get_or, length-take}
+use lib.ListN.{length, take, drop, get_or, length-take, length-append}
 use lib.Seq.{take_at}
 use Rattle.numbers.specs.Limits.{most_jobs}
 use Rattle.numbers.specs.Answer.{done, is_done, Answer}
@@ -29,6 +29,14 @@ pub record Accepted (F : Format) (bytes plan' : List ℕ) (n : ℕ) : Type 0 whe
   pub few : n ≤ most_jobs
   pub long : n * F.words ≤ length plan'
   pub lines : lines_to F.words (take (n * F.words) plan') n ≡ page_of F bytes
+
+-- the page lies at the start of the text's list
+pub page-at : (F : Format) (bytes plan xs plan' ys : List ℕ) (r : ℕ) → ShowPage F bytes (page_lists plan xs) (page_lists plan' ys) r
+    → (r ≤ length ys) × (take r ys ≡ page_of F bytes)
+page-at F bytes plan xs plan' ys r p =
+    let t = page_of F bytes in
+    let e : ys ≡ t ++ drop (length t) xs = ap (λ l. l.text) p.holds in
+    (omega (arith, p.answers, ap length e, length-append t (drop (length t) xs)), ap (take r) e ∙ take_at t _ r (sym p.answers))
 
 module _ (F : Format) (bytes plan rows plan' rows' : List ℕ) (r : Answer) (long : length plan ≡ most_jobs * F.words) (one : length rows ≡ 1)
     (p : ReadPlan F bytes (outputs plan rows) (outputs plan' rows') r) where
