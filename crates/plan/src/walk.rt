@@ -52,6 +52,10 @@ pub fn run_order(
     requires { Rows width height (length plane.old) plan.now order.now (length answers.old) }
     ensures { DoneInOrder width height differences.now plan.now order.now plane.old answers.old plane.new answers.new }
 {
+    // no room is made where there is no job
+    if order.is_empty() {
+        return;
+    }
     let mut above = [0i32; 128];
     let mut left = [0i32; 128];
     let mut out = [0.0f32; 4096];

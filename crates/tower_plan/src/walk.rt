@@ -61,6 +61,10 @@ pub fn run_order(
     requires { TowerRows width height (three p0.old p1.old p2.old) plan.now order.now (length answers.old) }
     ensures { TowerInOrder width height differences.now plan.now order.now (three p0.old p1.old p2.old) answers.old (three p0.new p1.new p2.new) answers.new }
 {
+    // no room is made where there is no job
+    if order.is_empty() {
+        return;
+    }
     let mut luma = [0i32; 65536];
     let mut chroma = [0i32; 65536];
     let mut block = [0i32; 16384];

@@ -1,6 +1,5 @@
 -- `run` meets its contract: what it does in the order given is what the plan's own order does. Assumes nothing.
 use mathlib.Core.Path.{refl, sym, ◌∙◌}
-use Rattle.numbers.proofs.Named.{ok-done}
 use Rattle.refusals.proofs.Promise.{passes-on}
 use Rattle.plan.specs.Run.{memory}
 use Rattle.plan.proofs.Reorder.{rows-of, ran-in-order}
