@@ -6,14 +6,18 @@ pub mod runs;
 pub mod table;
 
 use greymap::Greymap;
+use still_page::print;
 
 pub fn print_heading(rt: &impl Print, name: &str, g: Greymap) {
-    let _ = println!(rt; "Colour still {name}");
-    let _ = println!(rt;
-        "{} x {} samples of {} bits in three planes, {} blocks of 8 x 8\n",
-        g.width(),
-        g.height(),
-        g.d,
-        tower_blocks::jobs(g)
+    print::say(rt, format_args!("Colour still {name}\n"));
+    print::say(
+        rt,
+        format_args!(
+            "{} x {} samples of {} bits in three planes, {} blocks of 8 x 8\n\n",
+            g.width(),
+            g.height(),
+            g.d,
+            tower_blocks::jobs(g)
+        ),
     );
 }

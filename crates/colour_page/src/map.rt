@@ -30,10 +30,10 @@ fn print_row(rt: &impl Print, plan: Plan<'_, 32>, plane: Plane, row: u8) {
 }
 
 fn print_legend(rt: &impl Print) {
-    let _ = println!(rt;
+    let _ = print!(rt;
         "\n     jobs of Cb, and of Cr: with differences P Paeth, S smooth, V smooth_v, H smooth_h;"
     );
-    let _ = println!(rt; "     from luma C at the sample, A above it, L left of it");
+    let _ = println!(rt; "\n     from luma C at the sample, A above it, L left of it");
 }
 
 pub fn print_map(rt: &impl Print, plan: Plan<'_, 32>) {

@@ -1,6 +1,8 @@
 // The table of planes: a line for each, with how many of its jobs are from luma and how far what they rebuilt is off the original.
 use plane_picture::measure;
 use rebuild::{Plan, count};
+use still_page::print::right;
+use still_page::{print, rebuilding};
 use tower_blocks::plane::{Plane, Planes};
 use tower_blocks::row;
 
@@ -26,7 +28,8 @@ fn print_mean(rt: &impl Print, sum: u32, samples: usize) {
     }
     let samples = samples as u64;
     let hundredths = (100 * u64::from(sum) + samples / 2) / samples;
-    let _ = print!(rt; "{:>10}.{:02}", hundredths / 100, hundredths % 100);
+    print::say(rt, right(hundredths / 100, 10));
+    let _ = print!(rt; ".{:02}", hundredths % 100);
 }
 
 // A plane, the original's and the rebuilt one.
@@ -41,15 +44,15 @@ pub fn print_plane(
     let original = original.samples(plane);
     let rebuilt = rebuilt.samples(plane);
     let error = measure::error_of(original, rebuilt);
-    let _ = print!(rt;
-        "     {:<9}{:>5} of {:>2}{:>8} of {:>4}{:>16}",
-        plane.name(),
-        count_colour(plan, plane),
-        g.jobs(),
-        count::count_equal(original, rebuilt),
-        g.area(),
-        error.largest
+    let equal = count::count_equal(original, rebuilt);
+    let _ = print!(rt; "     {:<9}", plane.name());
+    rebuilding::print_part(
+        rt,
+        right(count_colour(plan, plane) as u64, 5),
+        right(g.jobs() as u64, 2),
     );
+    rebuilding::print_part(rt, right(equal as u64, 8), right(g.area() as u64, 4));
+    print::say(rt, right(u64::from(error.largest), 16));
     print_mean(rt, error.sum, g.area());
     let _ = println!(rt;);
 }

@@ -8,19 +8,22 @@ use tower_blocks::plane::{Plane, Planes};
 // The most blocks that a colour still has, of three planes.
 const BLOCKS: usize = 192;
 
-// Both runs of the plan, the first one's jobs that were refused, and what it rebuilt.
+// Both runs of the plan, the first one's jobs that were refused, and what it rebuilt. Their planes are on the stack only while it runs.
+#[inline(never)]
 fn tell(rt: &impl Print, plan: Plan<'_, 32>, original: &Planes) {
     runs::print_heading(rt);
-    let first = tower_rebuild::in_planes(plan);
+    let mut planes = Planes::EMPTY;
+    let first = tower_rebuild::in_planes(plan, &mut planes);
     runs::print_first(rt, &first);
     if first.answer.is_ok() {
         runs::print_refused(rt, plan.rows, first.answers());
     }
-    let second = tower_rebuild::in_waves(plan);
+    let mut again = Planes::EMPTY;
+    let second = tower_rebuild::in_waves(plan, &mut again);
     runs::print_second(rt, &second, &first);
     table::print_heading(rt);
     for plane in Plane::ALL {
-        table::print_plane(rt, plane, plan, original, &first.planes);
+        table::print_plane(rt, plane, plan, original, first.planes);
     }
     for plane in [Plane::Cb, Plane::Cr] {
         let (original, rebuilt) = (original.samples(plane), first.planes.samples(plane));
@@ -28,6 +31,8 @@ fn tell(rt: &impl Print, plan: Plan<'_, 32>, original: &Planes) {
     }
 }
 
+// Its rows and differences are not on the stack of a grey still.
+#[inline(never)]
 pub fn show(rt: &impl Print, name: &str, original: &Planes) {
     let g = original.g;
     let mut rows = [[0; 32]; BLOCKS];

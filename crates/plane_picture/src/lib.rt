@@ -7,13 +7,17 @@ pub mod measure;
 
 use greymap::Greymap;
 use letters::Letters;
+use still_page::print;
 
 // The picture of a plane, by its name.
 pub fn print_picture(rt: &impl Print, name: &str, g: Greymap, original: &[f32], rebuilt: &[f32]) {
     let range = measure::range_of(original);
-    let _ = println!(rt;
-        "\n     {name} from {} to {}, the original and rebuilt",
-        range.least, range.most
+    print::say(
+        rt,
+        format_args!(
+            "\n     {name} from {} to {}, the original and rebuilt\n",
+            range.least, range.most
+        ),
     );
     let width = g.width();
     for line in 0..4 * usize::from(g.down) {
@@ -23,6 +27,10 @@ pub fn print_picture(rt: &impl Print, name: &str, g: Greymap, original: &[f32], 
             width,
             range,
         };
-        let _ = println!(rt; "     {}   {}", line_of(original), line_of(rebuilt));
+        let _ = print!(rt; "     ");
+        let _ = print!(rt; "{}", line_of(original));
+        let _ = print!(rt; "   ");
+        let _ = print!(rt; "{}", line_of(rebuilt));
+        let _ = println!(rt;);
     }
 }

@@ -28,5 +28,8 @@ fn replay_files(rt: &impl Files, buffer: &mut [u8]) -> Tally {
 fn main(rt: HostRuntime) {
     let mut buffer = [0; 65536];
     let tally = replay_files(&rt, &mut buffer);
-    let _ = println!(rt; "{} cases, {} differ", tally.cases, tally.wrong);
+    let _ = print!(rt; "{}", tally.cases);
+    let _ = print!(rt; " cases, ");
+    let _ = print!(rt; "{}", tally.wrong);
+    let _ = println!(rt; " differ");
 }

@@ -12,18 +12,13 @@ use greymap::still;
 use greymap::still::{Still, StillFault};
 use std::fs::{File, Files};
 use std::io::Read;
+use still_page::print;
 use tower_blocks::plane::Planes;
 
-// The most samples that a plane has.
-const SAMPLES: usize = 4096;
-
-// The file's still, its samples in the planes' first places.
-fn load<R: Read>(
-    file: &mut R,
-    luma: &mut [f32],
-    cb: &mut [f32],
-    cr: &mut [f32],
-) -> Result<Still, StillFault> {
+// The file's still, its samples in the planes' first places. The file's bytes are off the stack once it is read.
+#[inline(never)]
+fn load<R: Read>(file: &mut R, planes: &mut Planes) -> Result<Still, StillFault> {
+    let Planes { luma, cb, cr, .. } = planes;
     let mut buffer = [0; 65536];
     match file_bytes::read_full(file, &mut buffer) {
         0 => Err(Fault::Empty.of(1)),
@@ -33,37 +28,37 @@ fn load<R: Read>(
 }
 
 // What an open file has, or what is wrong with it.
-fn show_open<R: Print + Eprint, F: Read>(rt: &R, name: &str, file: &mut F) {
-    let mut luma = [0.0; SAMPLES];
-    let mut cb = [0.0; SAMPLES];
-    let mut cr = [0.0; SAMPLES];
-    match load(file, &mut luma, &mut cb, &mut cr) {
-        Ok(Still::Grey(g)) => show::show(rt, name, series::first(&luma, g.area()), g),
-        Ok(Still::Colour(g)) => colour_still::show(rt, name, &Planes { g, luma, cb, cr }),
-        Err(why) => {
-            let _ = eprintln!(rt; "{name}: {why}");
+fn show_open<F: Read>(out: &impl Print, err: &impl Print, name: &str, file: &mut F) {
+    let mut planes = Planes::EMPTY;
+    match load(file, &mut planes) {
+        Ok(Still::Grey(g)) => show::show(out, name, series::first(&planes.luma, g.area()), g),
+        Ok(Still::Colour(g)) => {
+            planes.g = g;
+            colour_still::show(out, name, &planes);
         }
+        Err(why) => print::say(err, format_args!("{name}: {why}\n")),
     }
 }
 
 // What a file has. Nothing is told of a write that fails.
-fn show_file<R: Files + Print + Eprint>(rt: &R, name: &str) {
+fn show_file<R: Files + Print>(rt: &R, err: &impl Print, name: &str) {
     match File::open(rt, name) {
-        Ok(mut file) => show_open(rt, name, &mut file),
-        Err(error) => unopened::tell(rt, name, error),
+        Ok(mut file) => show_open(rt, err, name, &mut file),
+        Err(error) => unopened::tell(err, name, error),
     }
 }
 
 // The one file that is named, or those that ship.
 fn main(rt: HostRuntime) {
     let mut name = [0; 4096];
+    let err = rt.stderr();
     match named::name(&rt, &mut name) {
-        Ok(Some(name)) => show_file(&rt, name),
+        Ok(Some(name)) => show_file(&rt, &err, name),
         Ok(None) => {
-            show_file(&rt, "finish.pgm");
+            show_file(&rt, &err, "finish.pgm");
             let _ = println!(rt;);
-            show_file(&rt, "helmets.pgm");
+            show_file(&rt, &err, "helmets.pgm");
         }
-        Err(why) => why.tell(&mut rt.stderr()),
+        Err(why) => why.tell(&err),
     }
 }

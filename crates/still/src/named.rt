@@ -1,7 +1,7 @@
 // The file that the program's argument names.
 use std::env::{Env, FillError};
-use std::io::Write;
 use std::str;
+use still_page::print;
 
 // Why no file can be named by the arguments.
 #[derive(Clone, Copy)]
@@ -14,17 +14,20 @@ pub enum NoName<'a> {
     NoText(&'a [u8]),
 }
 
+// One line: a name, which need not be text, and what is wrong with it.
+fn tell_of(err: &impl Print, name: &[u8], why: &str) {
+    let _ = err.write_all(name);
+    print::say(err, format_args!(": {why}\n"));
+}
+
 impl NoName<'_> {
     // One line. What is no text is written as it is.
-    pub fn tell(self, to: &mut impl Write) {
-        let _ = match self {
-            NoName::More => writeln!(to, "usage: still [FILE.pgm]"),
-            NoName::TooLong => writeln!(to, "still: File name too long"),
-            NoName::NoText(name) => {
-                let _ = to.write_all(name);
-                writeln!(to, ": the name is no UTF-8 text")
-            }
-        };
+    pub fn tell(self, err: &impl Print) {
+        match self {
+            NoName::More => print::say(err, "usage: still [FILE.pgm]\n"),
+            NoName::TooLong => tell_of(err, b"still", "File name too long"),
+            NoName::NoText(name) => tell_of(err, name, "the name is no UTF-8 text"),
+        }
     }
 }
 

@@ -2,6 +2,7 @@
 use arrayvec::ArrayString;
 use std::fmt::Write;
 use std::io;
+use still_page::print;
 
 // The system's words alone: std puts the error's number behind them.
 fn without_number(text: &str) -> &str {
@@ -11,8 +12,9 @@ fn without_number(text: &str) -> &str {
     }
 }
 
-pub fn tell(rt: &impl Eprint, name: &str, error: io::Error) {
+pub fn tell(err: &impl Print, name: &str, error: io::Error) {
     let mut text = ArrayString::<320>::new();
     let _ = write!(text, "{error}");
-    let _ = eprintln!(rt; "{name}: {}", without_number(text.as_str()));
+    let why = without_number(text.as_str());
+    print::say(err, format_args!("{name}: {why}\n"));
 }

@@ -4,6 +4,7 @@
 mod heading;
 mod legend;
 pub mod map;
+pub mod print;
 pub mod rebuilding;
 mod table;
 

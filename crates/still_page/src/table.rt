@@ -1,6 +1,7 @@
 // The page's table: a line for each predictor, with how many blocks it was the nearest to, and how far off it was in all of them.
-use crate::legend;
 use crate::legend::LINES;
+use crate::print::right;
+use crate::{legend, print};
 use picture_blocks::candidate::{Candidate, Choice};
 
 // The most blocks that a still has.
@@ -32,8 +33,10 @@ fn error_of(choices: &[Choice], line: usize) -> u64 {
 pub fn print_table(rt: &impl Print, choices: &[Choice]) {
     let _ = println!(rt; "     nearest predictor       blocks    error");
     for (line, (letter, name)) in LINES.iter().enumerate() {
-        let blocks = blocks_of(choices, line);
-        let error = error_of(choices, line);
-        let _ = println!(rt; "  {letter}  {name:<24}{blocks:>6}{error:>9}");
+        let _ = print!(rt; "  {letter}  ");
+        let _ = print!(rt; "{name:<24}");
+        let blocks = right(blocks_of(choices, line) as u64, 6);
+        let error = right(error_of(choices, line), 9);
+        print::say(rt, format_args!("{blocks}{error}\n"));
     }
 }

@@ -39,7 +39,20 @@ pub struct Planes {
 }
 
 impl Planes {
-    // Before a run.
+    // Room for planes, 48 KiB of it, which functions borrow: of no blocks yet.
+    pub const EMPTY: Planes = Planes {
+        g: Greymap {
+            across: 0,
+            down: 0,
+            d: 8,
+        },
+        luma: [0.0; 4096],
+        cb: [0.0; 4096],
+        cr: [0.0; 4096],
+    };
+
+    // Before a run. What this function needs to make them is off the stack when it returns.
+    #[inline(never)]
     pub fn unwritten(g: Greymap) -> Planes {
         Planes {
             g,

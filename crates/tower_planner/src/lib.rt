@@ -38,7 +38,8 @@ fn put_job(
     row::put_row(g, b, number, rows);
 }
 
-// The whole plan of an original, as far as there is room.
+// The whole plan of an original, as far as there is room. The planes that it is tried on are off the stack when this returns.
+#[inline(never)]
 pub fn make(original: &Planes, rows: &mut [[u16; 32]], differences: &mut [[i16; 64]]) {
     let g = original.g;
     let mut planes = Planes::unwritten(g);
